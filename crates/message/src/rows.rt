@@ -1,0 +1,146 @@
+// Messages as rows of sixteen bytes.
+ghost use mathlib.Core.Path.{_≡_};
+ghost use Prim.Native.Nat.{_+_, _*_, _/_, _%_};
+ghost use Rattle.std.specs.declared.option.Option.the-variants.{Some};
+ghost use Rattle.message.specs.Table.{operationByte};
+ghost use Rattle.message.specs.Format.{row, first, wrongs, wrongZeros, verdict, errorByte};
+use crate::codes::Carrier;
+use crate::codes::ErrorCode;
+use crate::codes::Kind;
+use crate::codes::Operation;
+use crate::ranges::address_range;
+use crate::ranges::error_range;
+use crate::ranges::identity_range;
+use crate::ranges::number_range;
+use crate::record::Message;
+use crate::record::MessageFault;
+use crate::table::permits;
+
+fn operation_byte(operation: Option<Operation>) -> u8
+    ensures { λ r. ⌜ r ≡ operationByte operation ⌝ }
+{
+    match operation {
+        Some(operation) => operation.number(),
+        None => 0,
+    }
+}
+
+fn error_byte(error: Option<ErrorCode>) -> u8
+    ensures { λ r. ⌜ r ≡ errorByte error ⌝ }
+{
+    match error {
+        Some(error) => error.number(),
+        None => 0,
+    }
+}
+
+// Of a two-byte field the more significant byte stands first.
+fn high(value: u16) -> u8
+    ensures { λ r. ⌜ r ≡ value / 256 ⌝ }
+{
+    (value / 256) as u8
+}
+
+fn low(value: u16) -> u8
+    ensures { λ r. ⌜ r ≡ value % 256 ⌝ }
+{
+    (value % 256) as u8
+}
+
+fn word(high: u8, low: u8) -> u16
+    ensures { λ r. ⌜ r ≡ high * 256 + low ⌝ }
+{
+    u16::from_be_bytes([high, low])
+}
+
+// The first of the bytes 11 to 15 that is not 0.
+fn used(row: &[u8; 16]) -> Option<u8>
+    ensures { λ r. ⌜ r ≡ first 11 (wrongZeros (now (row .entry))) ⌝ }
+{
+    for byte in 11..16u8 {
+        if row[byte as usize] != 0 {
+            return Some(byte);
+        }
+    }
+    None
+}
+
+impl Message {
+    // The first wrong byte of `row` from byte 2 on, where the message is what its fields say.
+    fn first_wrong(&self, row: &[u8; 16]) -> Option<u8>
+        ensures { λ r. ⌜ r ≡ first 2 (wrongs (now (self .entry)) (now (row .entry))) ⌝ }
+    {
+        if !permits(self.carrier, self.kind, row[2]) {
+            return Some(2);
+        }
+        if self.leg > 31 {
+            return Some(3);
+        }
+        if !number_range(self.operation).contains(self.number) {
+            return Some(4);
+        }
+        if !identity_range(self.kind, self.operation).contains(self.identity) {
+            return Some(6);
+        }
+        if !address_range(self.kind, self.operation).contains(self.address) {
+            return Some(8);
+        }
+        if !error_range(self.kind).contains(u16::from(row[10])) {
+            return Some(10);
+        }
+        used(row)
+    }
+
+    // The message that a row means, or its first wrong byte.
+    pub fn read(bytes: &[u8]) -> Result<Message, MessageFault>
+        ensures { λ r. ⌜ r ≡ verdict (now (bytes .entry)) ⌝ }
+    {
+        let Ok(row) = <&[u8; 16]>::try_from(bytes) else {
+            return Err(MessageFault { byte: 16 });
+        };
+        let Some(carrier) = Carrier::from_number(row[0]) else {
+            return Err(MessageFault { byte: 0 });
+        };
+        let Some(kind) = Kind::from_number(row[1]) else {
+            return Err(MessageFault { byte: 1 });
+        };
+        let message = Message {
+            carrier,
+            kind,
+            operation: Operation::from_number(row[2]),
+            leg: row[3],
+            number: word(row[4], row[5]),
+            identity: word(row[6], row[7]),
+            address: word(row[8], row[9]),
+            error: ErrorCode::from_number(row[10]),
+        };
+        match message.first_wrong(row) {
+            Some(byte) => Err(MessageFault { byte }),
+            None => Ok(message),
+        }
+    }
+
+    // The message as a row.
+    pub fn write(&self) -> [u8; 16]
+        ensures { λ r. ⌜ r ≡ row (now (self .entry)) ⌝ }
+    {
+        [
+            self.carrier.number(),
+            self.kind.number(),
+            operation_byte(self.operation),
+            self.leg,
+            high(self.number),
+            low(self.number),
+            high(self.identity),
+            low(self.identity),
+            high(self.address),
+            low(self.address),
+            error_byte(self.error),
+            0,
+            0,
+            0,
+            0,
+            0,
+        ]
+    }
+}
