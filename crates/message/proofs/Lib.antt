@@ -1,2 +1,4 @@
 pub mod Every
 pub mod Masks
+pub mod Back
+pub mod Accepted

@@ -24,8 +24,8 @@ errorByte None = 0
 errorByte (Some e) = errorNumber e
 
 -- The row of a message. Of a two-byte field the more significant byte stands first.
-abbrev pub row : Message → List ℕ
-row m =
+abbrev pub rowOf : Message → List ℕ
+rowOf m =
     carrierNumber (m .carrier) ∷  -- 0
     kindNumber (m .kind) ∷  -- 1
     operationByte (m .operation) ∷  -- 2

@@ -1,5 +1,6 @@
 // Signalling messages in sixteen bytes: what they are, how they are read and how they are written.
 pub mod codes;
+pub mod laws;
 pub mod ranges;
 pub mod record;
 pub mod rows;

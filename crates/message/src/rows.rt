@@ -1,9 +1,10 @@
 // Messages as rows of sixteen bytes.
 ghost use mathlib.Core.Path.{_≡_};
 ghost use Prim.Native.Nat.{_+_, _*_, _/_, _%_};
-ghost use Rattle.std.specs.declared.option.Option.the-variants.{Some};
+ghost use Rattle.std.specs.Vec.{made};
+ghost use Rattle.std.specs.declared.result.Result.the-variants.{Ok};
 ghost use Rattle.message.specs.Table.{operationByte};
-ghost use Rattle.message.specs.Format.{row, first, wrongs, wrongZeros, verdict, errorByte};
+ghost use Rattle.message.specs.Format.{rowOf, first, wrongs, wrongZeros, verdict, errorByte, Lawful};
 use crate::codes::Carrier;
 use crate::codes::ErrorCode;
 use crate::codes::Kind;
@@ -91,8 +92,7 @@ impl Message {
         used(row)
     }
 
-    // The message that a row means, or its first wrong byte.
-    pub fn read(bytes: &[u8]) -> Result<Message, MessageFault>
+    fn judge(bytes: &[u8]) -> Result<Message, MessageFault>
         ensures { λ r. ⌜ r ≡ verdict (now (bytes .entry)) ⌝ }
     {
         let Ok(row) = <&[u8; 16]>::try_from(bytes) else {
@@ -120,9 +120,24 @@ impl Message {
         }
     }
 
-    // The message as a row.
+    // The message that a row means, or its first wrong byte. What is accepted is lawful, and is the row that is written of it.
+    pub fn read(bytes: &[u8]) -> Result<Message, MessageFault>
+        ensures verdict { λ r. ⌜ r ≡ verdict (now (bytes .entry)) ⌝ }
+        ensures accepted { λ r. ⌜ made r (λ m. Lawful m × (now (bytes .entry) ≡ rowOf m)) ⌝ }
+    {
+        Message::judge(bytes)
+    }
+
+    // The message as a row. That of a lawful message reads back as the same message.
     pub fn write(&self) -> [u8; 16]
-        ensures { λ r. ⌜ r ≡ row (now (self .entry)) ⌝ }
+        ensures row { λ r. ⌜ r ≡ rowOf (now (self .entry)) ⌝ }
+        ensures back { λ r. ⌜ (Lawful (now (self .entry)) → verdict r ≡ Ok (now (self .entry))) ⌝ }
+    {
+        self.encode()
+    }
+
+    fn encode(&self) -> [u8; 16]
+        ensures { λ r. ⌜ r ≡ rowOf (now (self .entry)) ⌝ }
     {
         [
             self.carrier.number(),
