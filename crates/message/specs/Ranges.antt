@@ -3,10 +3,11 @@ use mathlib.Core.Bool.{Bool, true, false, cond, _&&_, _||_}
 use Prim.Native.Nat.{ℕ}
 use lib.Dec.{eqb, leb}
 use Rattle.std.specs.declared.option.Option.{Option}
+use Rattle.std.specs.declared.option.Option.the-variants.{Some, None}
 use Rattle.message.specs.declared.codes.Kind.{Kind}
 use Rattle.message.specs.declared.codes.Kind.the-variants.{Nothing, Invoke, Result, Error, Reject}
 use Rattle.message.specs.declared.codes.Operation.{Operation}
-use Rattle.message.specs.declared.codes.Operation.the-variants.{CallTransferIdentify, CallTransferInitiate, CallTransferSetup, RemoteHold, RemoteRetrieve}
+use Rattle.message.specs.declared.codes.Operation.the-variants.{CallTransferIdentify, CallTransferAbandon, CallTransferInitiate, CallTransferSetup, HoldNotific, RetrieveNotific, RemoteHold, RemoteRetrieve}
 use Rattle.message.specs.declared.span.Span.{Span}
 use Rattle.message.specs.Codes.{kindNumber, operationNumber}
 use Rattle.message.specs.Table.{operationByte}
@@ -27,12 +28,22 @@ ofKind j k = eqb (kindNumber j) (kindNumber k)
 abbrev pub names : Option Operation → Operation → Bool
 names o p = eqb (operationByte o) (operationNumber p)
 
--- the operations that are answered
-abbrev pub confirmed : Option Operation → Bool
-confirmed o =
-    names o CallTransferIdentify || (names o CallTransferInitiate || (names o CallTransferSetup || (names o RemoteHold || names o RemoteRetrieve)))
+-- a confirmed operation is answered, so its invoke and each reply have a request number
+abbrev pub confirmed : Operation → Bool
+confirmed CallTransferIdentify = true
+confirmed CallTransferAbandon = false
+confirmed CallTransferInitiate = true
+confirmed CallTransferSetup = true
+confirmed HoldNotific = false
+confirmed RetrieveNotific = false
+confirmed RemoteHold = true
+confirmed RemoteRetrieve = true
 
--- the answer to an identify says by which identity and at which address the call is met
+abbrev pub hasNumber : Option Operation → Bool
+hasNumber None = false
+hasNumber (Some o) = confirmed o
+
+-- the result of an identify says by which identity and at which address the call is met
 abbrev pub identified : Kind → Option Operation → Bool
 identified k o = ofKind k Result && names o CallTransferIdentify
 
@@ -40,19 +51,21 @@ identified k o = ofKind k Result && names o CallTransferIdentify
 abbrev pub transferred : Kind → Option Operation → Bool
 transferred k o = ofKind k Invoke && (names o CallTransferInitiate || names o CallTransferSetup)
 
+abbrev pub namesCall : Kind → Option Operation → Bool
+namesCall k o = identified k o || transferred k o
+
 abbrev pub legRange : Span
 legRange = span 0 31
 
--- the request number, in an invoke and in each reply to it
 abbrev pub numberRange : Option Operation → Span
-numberRange o = cond (confirmed o) (span 1 65535) absent
+numberRange o = cond (hasNumber o) (span 1 65535) absent
 
 -- identity 0 means that there is no secondary call
 abbrev pub identityRange : Kind → Option Operation → Span
 identityRange k o = cond (identified k o) (span 1 9999) (cond (transferred k o) (span 0 9999) absent)
 
 abbrev pub addressRange : Kind → Option Operation → Span
-addressRange k o = cond (identified k o || transferred k o) (span 1 65535) absent
+addressRange k o = cond (namesCall k o) (span 1 65535) absent
 
 abbrev pub errorRange : Kind → Span
 errorRange k = cond (ofKind k Error) (span 1 5) absent

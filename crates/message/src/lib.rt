@@ -1,11 +1,11 @@
 // Signalling messages in sixteen bytes: what they are, how they are read and how they are written.
 pub mod codes;
 pub mod laws;
-pub mod ranges;
+mod ranges;
 pub mod record;
-pub mod rows;
-pub mod span;
-pub mod table;
+mod rows;
+mod span;
+mod table;
 
 pub use codes::Carrier;
 pub use codes::ErrorCode;

@@ -1,12 +1,13 @@
 // From the least to the most that each field of a message may hold.
 ghost use mathlib.Core.Path.{_≡_};
-ghost use Rattle.message.specs.Ranges.{inside, numberRange, identityRange, addressRange, errorRange};
+ghost use Rattle.message.specs.Ranges.{inside, confirmed, hasNumber, namesCall, numberRange, identityRange, addressRange, errorRange};
 use crate::codes::Kind;
 use crate::codes::Operation;
+use crate::record::Message;
 use crate::span::Span;
 
 impl Span {
-    pub fn contains(self, value: u16) -> bool
+    pub(crate) fn contains(self, value: u16) -> bool
         ensures { λ r. ⌜ r ≡ inside self value ⌝ }
     {
         self.least <= value && value <= self.most
@@ -22,52 +23,78 @@ const POSITIVE: Span = Span {
     most: 65535,
 };
 
-// A confirmed operation has a request number in its invoke and in each reply.
-pub fn number_range(operation: Option<Operation>) -> Span
-    ensures { λ r. ⌜ r ≡ numberRange operation ⌝ }
-{
-    match operation {
-        Some(
+impl Operation {
+    // Whether the operation is answered, by a result, an error or a reject.
+    pub fn is_confirmed(self) -> bool
+        ensures { λ r. ⌜ r ≡ confirmed self ⌝ }
+    {
+        match self {
             Operation::CallTransferIdentify
             | Operation::CallTransferInitiate
             | Operation::CallTransferSetup
             | Operation::RemoteHold
-            | Operation::RemoteRetrieve,
-        ) => POSITIVE,
-        _ => ABSENT,
+            | Operation::RemoteRetrieve => true,
+            Operation::CallTransferAbandon | Operation::HoldNotific | Operation::RetrieveNotific =>
+                false,
+        }
     }
 }
 
-// An identified call has an identity; a transfer without a secondary call has 0 in its place.
-pub fn identity_range(kind: Kind, operation: Option<Operation>) -> Span
-    ensures { λ r. ⌜ r ≡ identityRange kind operation ⌝ }
-{
-    match (kind, operation) {
-        (Kind::Result, Some(Operation::CallTransferIdentify)) => Span {
-            least: 1,
-            most: 9999,
-        },
-        (Kind::Invoke, Some(Operation::CallTransferInitiate | Operation::CallTransferSetup)) =>
-            Span {
-                least: 0,
+impl Message {
+    // Whether a request number stands in the message.
+    pub fn has_number(&self) -> bool
+        ensures { λ r. ⌜ r ≡ hasNumber (now (self .entry) .operation) ⌝ }
+    {
+        match self.operation {
+            Some(operation) => operation.is_confirmed(),
+            None => false,
+        }
+    }
+
+    // Whether the message names a call, by its identity and the address at which it is met.
+    pub fn names_call(&self) -> bool
+        ensures { λ r. ⌜ r ≡ namesCall (now (self .entry) .kind) (now (self .entry) .operation) ⌝ }
+    {
+        match (self.kind, self.operation) {
+            (Kind::Result, Some(Operation::CallTransferIdentify)) => true,
+            (Kind::Invoke, Some(Operation::CallTransferInitiate | Operation::CallTransferSetup)) =>
+                true,
+            _ => false,
+        }
+    }
+
+    pub(crate) fn number_range(&self) -> Span
+        ensures { λ r. ⌜ r ≡ numberRange (now (self .entry) .operation) ⌝ }
+    {
+        if self.has_number() { POSITIVE } else { ABSENT }
+    }
+
+    // A transfer without a secondary call has identity 0.
+    pub(crate) fn identity_range(&self) -> Span
+        ensures { λ r. ⌜ r ≡ identityRange (now (self .entry) .kind) (now (self .entry) .operation) ⌝ }
+    {
+        match (self.kind, self.operation) {
+            (Kind::Result, Some(Operation::CallTransferIdentify)) => Span {
+                least: 1,
                 most: 9999,
             },
-        _ => ABSENT,
+            (Kind::Invoke, Some(Operation::CallTransferInitiate | Operation::CallTransferSetup)) =>
+                Span {
+                    least: 0,
+                    most: 9999,
+                },
+            _ => ABSENT,
+        }
+    }
+
+    pub(crate) fn address_range(&self) -> Span
+        ensures { λ r. ⌜ r ≡ addressRange (now (self .entry) .kind) (now (self .entry) .operation) ⌝ }
+    {
+        if self.names_call() { POSITIVE } else { ABSENT }
     }
 }
 
-pub fn address_range(kind: Kind, operation: Option<Operation>) -> Span
-    ensures { λ r. ⌜ r ≡ addressRange kind operation ⌝ }
-{
-    match (kind, operation) {
-        (Kind::Result, Some(Operation::CallTransferIdentify)) => POSITIVE,
-        (Kind::Invoke, Some(Operation::CallTransferInitiate | Operation::CallTransferSetup)) =>
-            POSITIVE,
-        _ => ABSENT,
-    }
-}
-
-pub fn error_range(kind: Kind) -> Span
+pub(crate) fn error_range(kind: Kind) -> Span
     ensures { λ r. ⌜ r ≡ errorRange kind ⌝ }
 {
     match kind {

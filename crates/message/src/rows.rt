@@ -9,10 +9,7 @@ use crate::codes::Carrier;
 use crate::codes::ErrorCode;
 use crate::codes::Kind;
 use crate::codes::Operation;
-use crate::ranges::address_range;
 use crate::ranges::error_range;
-use crate::ranges::identity_range;
-use crate::ranges::number_range;
 use crate::record::Message;
 use crate::record::MessageFault;
 use crate::table::permits;
@@ -77,13 +74,13 @@ impl Message {
         if self.leg > 31 {
             return Some(3);
         }
-        if !number_range(self.operation).contains(self.number) {
+        if !self.number_range().contains(self.number) {
             return Some(4);
         }
-        if !identity_range(self.kind, self.operation).contains(self.identity) {
+        if !self.identity_range().contains(self.identity) {
             return Some(6);
         }
-        if !address_range(self.kind, self.operation).contains(self.address) {
+        if !self.address_range().contains(self.address) {
             return Some(8);
         }
         if !error_range(self.kind).contains(u16::from(row[10])) {

@@ -15,7 +15,7 @@ const OPERATION_MASKS: [[u16; 5]; 5] = [
 ];
 
 // Whether byte `operation` may stand under this carrier and kind.
-pub fn permits(carrier: Carrier, kind: Kind, operation: u8) -> bool
+pub(crate) fn permits(carrier: Carrier, kind: Kind, operation: u8) -> bool
     ensures { λ r. ⌜ r ≡ permitted carrier kind operation ⌝ }
 {
     let mask = OPERATION_MASKS[kind.number() as usize][carrier.number() as usize - 1];
