@@ -1,0 +1,3 @@
+// What the program msgdump prints, line by line.
+mod hex;
+mod words;
