@@ -1,7 +1,7 @@
 -- The loops over digits, one turn at a time.
 use mathlib.Core.Path.{_≡_, refl, sym, ap, _∙_}
 use mathlib.Core.List.{List, [], _∷_, _++_, append-assoc, append-nil}
-use Prim.Native.Nat.{ℕ, _+_, _-_, _≤_, _<_}
+use Prim.Native.Nat.{ℕ, _+_, _-_, _/_, _%_, _≤_, _<_}
 use native.Mathlib.Numerals.{add-one}
 use native.Mathlib.Omega.{arith}
 use lib.ListN.{length, getD, take, drop}
@@ -9,7 +9,7 @@ use lib.Seq.{drop-cons}
 use Rattle.std.proofs.shelf.Lists.{drop-all, take-all}
 use Rattle.std.specs.declared.option.Option.{Option}
 use Rattle.std.specs.declared.option.Option.the-variants.{Some, None}
-use Rattle.dump.specs.Hex.{digitOf, paired, before, hexRow, hexText}
+use Rattle.dump.specs.Hex.{glyph, digitOf, paired, before, hexRow, hexText}
 
 -- bytes that were read already, before those that are still to come
 abbrev pub after : List ℕ → Option (List ℕ) → Option (List ℕ)
@@ -39,10 +39,12 @@ row-more line rest xs ys b inv h eb ey =
     ∙ after-more xs b (hexRow (take (length rest - 2) (drop 2 rest)))
     ∙ ap (λ zs. after zs (hexRow (take (length rest - 2) (drop 2 rest)))) (sym ey)
 
-pub text-more : (xs t u : List ℕ) (i : ℕ) → t ++ hexText (drop i xs) ≡ hexText xs → i < length xs → u ≡ t ++ hexText (getD xs i 0 ∷ [])
+pub text-more : (xs t u : List ℕ) (i : ℕ) → t ++ hexText (drop i xs) ≡ hexText xs → i < length xs → u ≡ t ++ (glyph (getD xs i 0 / 16) ∷ glyph (getD xs i 0 % 16) ∷ [])
     → u ++ hexText (drop (i + 1) xs) ≡ hexText xs
+unfolding hexText
 text-more xs t u i inv h eu =
     rw (eu, add-one, append-assoc) (ap (λ ys. t ++ hexText ys) (sym (drop-cons xs i 0 h)) ∙ inv)
 
 pub text-all : (xs t : List ℕ) (i : ℕ) → t ++ hexText (drop i xs) ≡ hexText xs → length xs ≤ i → t ≡ hexText xs
+unfolding hexText
 text-all xs t i inv h = sym (append-nil t) ∙ ap (λ ys. t ++ hexText ys) (sym (drop-all i xs h)) ∙ inv

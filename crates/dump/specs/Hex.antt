@@ -18,7 +18,7 @@ abbrev pub glyph : ℕ → ℕ
 glyph n = cond (ltb n 10) (48 + n) (87 + n)
 
 -- a row of digits: two for each byte, the more significant first
-abbrev pub hexText : List ℕ → List ℕ
+unfoldable pub hexText : List ℕ → List ℕ
 hexText [] = []
 hexText (b ∷ bs) = glyph (b / 16) ∷ glyph (b % 16) ∷ hexText bs
 

@@ -65,7 +65,7 @@ errorWords None = []
 errorWords (Some e) = codes " error=" ++ errorWord e
 
 -- the fields that apply, in the order of the row
-abbrev pub words : Message → List ℕ
+unfoldable pub words : Message → List ℕ
 words m =
     carrierWord (m .carrier) ++
     (attachedWords (m .kind) (m .operation) ++

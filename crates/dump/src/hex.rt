@@ -1,7 +1,7 @@
 // Bytes as hexadecimal digits, two for each byte.
 ghost use mathlib.Core.Path.{_≡_};
 ghost use mathlib.Core.List.{[], _∷_, _++_};
-ghost use Prim.Native.Nat.{_<_};
+ghost use Prim.Native.Nat.{_/_, _%_, _<_};
 ghost use Rattle.std.specs.Of.String.{string-bytes};
 ghost use Rattle.std.specs.Of.Vec.{vec-items};
 ghost use Rattle.std.specs.Options.{mapped};
@@ -39,7 +39,7 @@ fn push_digit(text: &mut String, value: u8) -> Result<(), AllocError>
 }
 
 fn push_byte(text: &mut String, byte: u8) -> Result<(), AllocError>
-    ensures { λ r. ⌜ made r (λ _. string-bytes (now (text .exit)) ≡ string-bytes (now (text .entry)) ++ hexText (byte ∷ [])) ⌝ }
+    ensures { λ r. ⌜ made r (λ _. string-bytes (now (text .exit)) ≡ string-bytes (now (text .entry)) ++ (glyph (byte / 16) ∷ glyph (byte % 16) ∷ [])) ⌝ }
 {
     push_digit(text, byte / 16)?;
     push_digit(text, byte % 16)?;
