@@ -38,10 +38,15 @@ formOf (Some bytes) = elim (verdict bytes) [ Ok m ↦ form.Message | Err f ↦ f
 abbrev pub messageText : Message → List ℕ
 messageText m = hexText (rowOf m) ++ (codes " " ++ words m)
 
--- a message, or the number of a fault, or a question mark
+-- a row that is a message, or the number of its fault
+abbrev pub told : Result Message MessageFault → List ℕ
+told (Ok m) = messageText m
+told (Err f) = codes "fault " ++ decimal (f .byte)
+
+-- and a question mark for what is no row
 abbrev pub textOf : Option (List ℕ) → List ℕ
 textOf None = codes "?"
-textOf (Some bytes) = elim (verdict bytes) [ Ok m ↦ messageText m | Err f ↦ codes "fault " ++ decimal (f .byte) ]
+textOf (Some bytes) = told (verdict bytes)
 
 abbrev pub formOfLine : List ℕ → Form
 formOfLine line = formOf (hexRow (content line))

@@ -1,6 +1,7 @@
 // What the program msgdump prints, line by line.
 mod shown;
 mod hex;
+pub mod laws;
 pub mod lines;
 pub mod tally;
 mod words;

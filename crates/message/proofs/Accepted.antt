@@ -19,7 +19,6 @@ use Rattle.std.proofs.shelf.Elements.{all-getD, all-from-getD}
 use Rattle.std.proofs.shelf.Lists.{drop-all}
 use Rattle.message.specs.declared.codes.Carrier.{Carrier}
 use Rattle.message.specs.declared.codes.Kind.{Kind}
-use Rattle.message.specs.declared.codes.Kind.the-variants as kind
 use Rattle.message.specs.declared.codes.Operation.{Operation}
 use Rattle.message.specs.declared.record.Message.{Message}
 use Rattle.message.specs.declared.record.MessageFault.{MessageFault}
@@ -51,11 +50,7 @@ among-named n [] e = let z : _≡_ {A = ℕ} 0 1 = cc in omega arith
 among-named n (o ∷ os) e = let ih = among-named n os in let b = operation-back o in grind (arith, tells, ih, b)
 
 error-small : (k : Kind) (n : ℕ) → inside (errorRange k) n ≡ true → n < 6
-error-small kind.Nothing n e = grind (arith, tells)
-error-small kind.Invoke n e = grind (arith, tells)
-error-small kind.Result n e = grind (arith, tells)
-error-small kind.Error n e = grind (arith, tells)
-error-small kind.Reject n e = grind (arith, tells)
+error-small k n e = grind (arith, tells)
 
 error-named : (n : ℕ) → n < 6 → errorByte (errorOf n) ≡ n
 error-named n h = eqb-true (errorByte (errorOf n)) n (below (λ i. eqb (errorByte (errorOf i)) i) 6 refl n h)
