@@ -34,7 +34,11 @@ fn push_digit(text: &mut String, value: u8) -> Result<(), AllocError>
     requires { ⌜ value < 16 ⌝ }
     ensures { λ r. ⌜ made r (λ _. string-bytes (now (text .exit)) ≡ string-bytes (now (text .entry)) ++ glyph value ∷ []) ⌝ }
 {
-    let digit = if value < 10 { b'0' + value } else { b'a' - 10 + value };
+    let digit = if value < 10 {
+        b'0' + value
+    } else {
+        b'a' - 10 + value
+    };
     text.push(char::from(digit))
 }
 

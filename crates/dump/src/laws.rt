@@ -5,5 +5,4 @@ ghost use Rattle.dump.specs.Laws.{DigitsBack, PrintsAgain};
 pub fn lines_stand()
     ensures digits { λ _. ⌜ DigitsBack ⌝ }
     ensures again { λ _. ⌜ PrintsAgain ⌝ }
-{
-}
+{}

@@ -1,12 +1,12 @@
 // What the program msgdump prints, line by line.
-mod shown;
 mod hex;
 pub mod laws;
 pub mod lines;
+mod shown;
 pub mod tally;
 mod words;
 
-pub use shown::describe;
-pub use lines::Form;
 pub use lines::Described;
+pub use lines::Form;
+pub use shown::describe;
 pub use tally::Tally;

@@ -6,8 +6,8 @@ ghost use Rattle.std.specs.Vec.{made};
 ghost use Rattle.dump.specs.Lines.{content, messageText, formOf, textOf, formOfLine, textOfLine, counted, summaryOf};
 use crate::hex::hex_row;
 use crate::hex::hex_text;
-use crate::lines::Form;
 use crate::lines::Described;
+use crate::lines::Form;
 use crate::tally::Tally;
 use crate::words::in_words;
 use message::Message;
@@ -44,12 +44,18 @@ fn described_row(heap: Global, row: &[u8]) -> Result<Described, AllocError>
     match Message::read(row) {
         Ok(message) => {
             let text = message_text(heap, &message)?;
-            Ok(Described { form: Form::Message, text })
+            Ok(Described {
+                form: Form::Message,
+                text,
+            })
         }
         Err(fault) => {
             let byte = fault.byte;
             let text = format!(heap, "fault {byte}")?;
-            Ok(Described { form: Form::Fault, text })
+            Ok(Described {
+                form: Form::Fault,
+                text,
+            })
         }
     }
 }
@@ -63,7 +69,10 @@ pub fn describe(heap: Global, line: &[u8]) -> Result<Described, AllocError>
         Some(row) => described_row(heap, row.as_slice()),
         None => {
             let text = String::from_str(heap, "?")?;
-            Ok(Described { form: Form::Unreadable, text })
+            Ok(Described {
+                form: Form::Unreadable,
+                text,
+            })
         }
     }
 }
@@ -99,6 +108,9 @@ impl Tally {
             faults,
             unreadable,
         } = *self;
-        format!(heap, "{messages} messages, {faults} faults, {unreadable} unreadable lines")
+        format!(
+            heap,
+            "{messages} messages, {faults} faults, {unreadable} unreadable lines"
+        )
     }
 }

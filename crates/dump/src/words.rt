@@ -58,7 +58,8 @@ fn error_word(error: ErrorCode) -> &'static str
         ErrorCode::EstablishmentFailure => "establishmentFailure",
         ErrorCode::Unspecified => "unspecified",
         ErrorCode::InvalidCallState => "invalidCallState",
-        ErrorCode::SupplementaryServiceInteractionNotAllowed => "supplementaryServiceInteractionNotAllowed",
+        ErrorCode::SupplementaryServiceInteractionNotAllowed =>
+            "supplementaryServiceInteractionNotAllowed",
     }
 }
 
