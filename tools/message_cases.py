@@ -179,10 +179,10 @@ def lines():
     return out
 
 
-def array(comment, name, element, width, rows):
-    text = f"// {comment}\npub const {name}: [{element}; {width * len(rows)}] = [\n"
+def array(comment, name, element, rows):
+    text = f"// {comment}\npub const {name}: [{element}; {len(rows)}] = [\n"
     for row in rows:
-        text += "    " + ", ".join(str(n) for n in row) + ",\n"
+        text += f"    {row},\n"
     return text + "];\n"
 
 
@@ -191,10 +191,10 @@ def table():
     fields = [[row[0], row[1], row[2], row[3]] + [row[i] * 256 + row[i + 1] for i in (4, 6, 8)] + [row[10]] for row in rows]
     cases = [(row, byte) for row, byte in faulty_rows() if len(row) == 16]
     return "// Made by tools/message_cases.py, a second reading of the format.\n\n" + "\n".join([
-        array("A lawful row of each combination and at each bound, sixteen bytes each.", "LAWFUL_ROWS", "u8", 16, rows),
-        array("Carrier, kind, operation, leg, number, identity, address and error of each.", "LAWFUL_FIELDS", "u16", 8, fields),
-        array("Rows with a fault, sixteen bytes each.", "FAULTY_ROWS", "u8", 16, [row for row, _ in cases]),
-        array("The first wrong byte of each.", "FAULTY_BYTES", "u8", 1, [[byte] for _, byte in cases]),
+        array("A lawful row of each combination and at each bound.", "LAWFUL_ROWS", "[u8; 16]", rows),
+        array("Carrier, kind, operation, leg, number, identity, address and error of each.", "LAWFUL_FIELDS", "[u16; 8]", fields),
+        array("Rows with a fault.", "FAULTY_ROWS", "[u8; 16]", [row for row, _ in cases]),
+        array("The first wrong byte of each.", "FAULTY_BYTES", "u8", [byte for _, byte in cases]),
     ])
 
 

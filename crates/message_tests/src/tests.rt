@@ -43,12 +43,10 @@ fn numbers(message: &Message) -> [u16; 8] {
 // Each lawful row means its message, and is written of it again.
 #[test]
 fn lawful_rows() -> Result<(), Fail> {
-    for (row, fields) in LAWFUL_ROWS.chunks(16).zip(LAWFUL_FIELDS.chunks(8)) {
+    for (row, fields) in LAWFUL_ROWS.iter().zip(LAWFUL_FIELDS.iter()) {
         let message = Message::read(row)?;
-        let read = numbers(&message);
-        check(&read[..] == fields)?;
-        let written = message.write();
-        check(&written[..] == row)?;
+        check_eq(numbers(&message), *fields)?;
+        check_eq(message.write(), *row)?;
     }
     Ok(())
 }
@@ -56,7 +54,7 @@ fn lawful_rows() -> Result<(), Fail> {
 // Each faulty row is faulted at its first wrong byte.
 #[test]
 fn faulty_rows() -> Result<(), Fail> {
-    for (row, byte) in FAULTY_ROWS.chunks(16).zip(FAULTY_BYTES) {
+    for (row, byte) in FAULTY_ROWS.iter().zip(FAULTY_BYTES) {
         check_eq(Message::read(row), Err(MessageFault { byte }))?;
     }
     Ok(())
