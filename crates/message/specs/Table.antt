@@ -1,7 +1,7 @@
 -- Which operations may stand under each carrier and kind.
 use mathlib.Core.Bool.{Bool, true, false, cond}
 use mathlib.Core.List.{List, [], _∷_}
-use Prim.Native.Nat.{ℕ}
+use Prim.Native.Nat.{ℕ, _+_, _^_}
 use lib.Dec.{eqb}
 use Rattle.std.specs.declared.option.Option.{Option}
 use Rattle.std.specs.declared.option.Option.the-variants.{Some, None}
@@ -42,6 +42,11 @@ standing Connect k = elim k [ Nothing ↦ bare | Invoke ↦ [] | Result ↦ only
 standing Facility k = elim k [ Nothing ↦ [] | Invoke ↦ invoked | Result ↦ replied | Error ↦ replied | Reject ↦ replied ]
 standing ReleaseComplete k =
     elim k [ Nothing ↦ bare | Invoke ↦ [] | Result ↦ only CallTransferInitiate | Error ↦ only CallTransferSetup | Reject ↦ only CallTransferSetup ]
+
+-- these operations as a mask, bit n for operation n
+abbrev pub maskOf : List (Option Operation) → ℕ
+maskOf [] = 0
+maskOf (o ∷ os) = 2 ^ operationByte o + maskOf os
 
 -- byte n stands for one of these
 abbrev pub among : ℕ → List (Option Operation) → Bool
