@@ -2,11 +2,10 @@
 mod hex;
 pub mod laws;
 pub mod lines;
-mod shown;
 pub mod tally;
 mod words;
 
 pub use lines::Described;
 pub use lines::Form;
-pub use shown::describe;
+pub use lines::describe;
 pub use tally::Tally;

@@ -16,7 +16,7 @@ use Rattle.message.specs.Codes.{carrierNumber, carrierOf, kindNumber, kindOf, 
 use Rattle.message.specs.Table.{operationByte}
 use Rattle.message.specs.Format.{errorByte, rowOf, meant, first, wrongs, judged, unless, verdict, Lawful}
 use Rattle.message.specs.Laws.{Bytes, ReadsBack}
-use Rattle.message.specs.declared.span.Span.{Span}
+use Rattle.message.specs.declared.ranges.Span.{Span}
 use Rattle.message.specs.Ranges.{inside, numberRange, identityRange, addressRange}
 use Rattle.std.proofs.shelf.Ways.{tells}
 

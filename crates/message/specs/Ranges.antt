@@ -8,7 +8,7 @@ use Rattle.message.specs.declared.codes.Kind.{Kind}
 use Rattle.message.specs.declared.codes.Kind.the-variants.{Nothing, Invoke, Result, Error, Reject}
 use Rattle.message.specs.declared.codes.Operation.{Operation}
 use Rattle.message.specs.declared.codes.Operation.the-variants.{CallTransferIdentify, CallTransferAbandon, CallTransferInitiate, CallTransferSetup, HoldNotific, RetrieveNotific, RemoteHold, RemoteRetrieve}
-use Rattle.message.specs.declared.span.Span.{Span}
+use Rattle.message.specs.declared.ranges.Span.{Span}
 use Rattle.message.specs.Codes.{kindNumber, operationNumber}
 use Rattle.message.specs.Table.{operationByte}
 

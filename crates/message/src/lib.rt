@@ -4,7 +4,6 @@ pub mod laws;
 mod ranges;
 pub mod record;
 mod rows;
-mod span;
 mod table;
 
 pub use codes::Carrier;

@@ -4,7 +4,13 @@ ghost use Rattle.message.specs.Ranges.{inside, confirmed, hasNumber, namesCall
 use crate::codes::Kind;
 use crate::codes::Operation;
 use crate::record::Message;
-use crate::span::Span;
+
+// A span of numbers, both ends in it.
+#[derive(Clone, Copy)]
+pub struct Span {
+    least: u16,
+    most: u16,
+}
 
 impl Span {
     pub(crate) fn contains(self, value: u16) -> bool

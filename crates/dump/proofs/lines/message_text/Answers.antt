@@ -1,6 +1,6 @@
 use mathlib.Core.Path.{_∙_, ap}
 use Rattle.dump.specs.Hex.{hexText}
-use Rattle.dump.proofs.shown.message_text.Needs as need
+use Rattle.dump.proofs.lines.message_text.Needs as need
 
 pub returns : need.returns
 returns c =
