@@ -45,5 +45,11 @@ fn run(rt: &LibcRuntime) -> io::Result<()> {
 }
 
 fn main(rt: LibcRuntime) -> io::Result<()> {
-    rt.report(run(&rt))
+    match run(&rt) {
+        Ok(()) => Ok(()),
+        Err(error) => {
+            eprintln!(rt, "msgdump: {error}")?;
+            Err(error)
+        }
+    }
 }
