@@ -31,7 +31,7 @@ use Rattle.message.proofs.Back.{operation-back}
 use Rattle.message.specs.Laws.{AcceptedIsLawful, AcceptedIsRow, OneRow}
 
 -- the case that a number was read as has that number
-numbered-has : {A : Type 0} (number : A → ℕ) (n : ℕ) (xs : List A) (x : A) → numbered number n xs ≡ Some x → number x ≡ n
+pub numbered-has : {A : Type 0} (number : A → ℕ) (n : ℕ) (xs : List A) (x : A) → numbered number n xs ≡ Some x → number x ≡ n
 numbered-has number n [] x e = let z : _≡_ {A = ℕ} 0 1 = cc in omega arith
 numbered-has number n (y ∷ ys) x e = let ih = numbered-has number n ys x in grind (arith, tells, ih)
 
@@ -40,19 +40,19 @@ none-true i [] e = tt
 none-true i (true ∷ ws) e = let z : _≡_ {A = ℕ} 0 1 = cc in absurd (omega arith)
 none-true i (false ∷ ws) e = (refl, none-true (suc i) ws e)
 
-not-false : (b : Bool) → not b ≡ false → b ≡ true
+pub not-false : (b : Bool) → not b ≡ false → b ≡ true
 not-false true e = refl
 not-false false e = sym e
 
 -- an operation that may stand somewhere is named by its byte
-among-named : (n : ℕ) (os : List (Option Operation)) → among n os ≡ true → operationByte (operationOf n) ≡ n
+pub among-named : (n : ℕ) (os : List (Option Operation)) → among n os ≡ true → operationByte (operationOf n) ≡ n
 among-named n [] e = let z : _≡_ {A = ℕ} 0 1 = cc in omega arith
 among-named n (o ∷ os) e = let ih = among-named n os in let b = operation-back o in grind (arith, tells, ih, b)
 
-error-small : (k : Kind) (n : ℕ) → inside (errorRange k) n ≡ true → n < 6
+pub error-small : (k : Kind) (n : ℕ) → inside (errorRange k) n ≡ true → n < 6
 error-small k n e = grind (arith, tells)
 
-error-named : (n : ℕ) → n < 6 → errorByte (errorOf n) ≡ n
+pub error-named : (n : ℕ) → n < 6 → errorByte (errorOf n) ≡ n
 error-named n h = eqb-true (errorByte (errorOf n)) n (below (λ i. eqb (errorByte (errorOf i)) i) 6 refl n h)
 
 -- what a row that is accepted as m has to do with m
@@ -126,10 +126,10 @@ spread-drop (suc n) i xs h =
     ap (λ ys. getD xs i 0 ∷ ys) (spread-drop n (suc i) xs (omega arith)) ∙ sym (drop-cons xs i 0 lt)
 
 -- the two bytes of a field are those that are written of it
-word-is : (n h l : ℕ) → n ≡ h * 256 + l → l < 256 → (h ≡ n / 256) × (l ≡ n % 256)
+pub word-is : (n h l : ℕ) → n ≡ h * 256 + l → l < 256 → (h ≡ n / 256) × (l ≡ n % 256)
 word-is n h l e lt = omega arith
 
-zero-is : (n : ℕ) → not (eqb n 0) ≡ false → n ≡ 0
+pub zero-is : (n : ℕ) → not (eqb n 0) ≡ false → n ≡ 0
 zero-is n e = eqb-true n 0 (not-false (eqb n 0) e)
 
 pub accepted-is-row : AcceptedIsRow

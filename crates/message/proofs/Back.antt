@@ -20,19 +20,19 @@ use Rattle.message.specs.declared.ranges.Span.{Span}
 use Rattle.message.specs.Ranges.{inside, numberRange, identityRange, addressRange}
 use Rattle.std.proofs.shelf.Ways.{tells}
 
-carrier-back : (c : Carrier) → carrierOf (carrierNumber c) ≡ Some c
+pub carrier-back : (c : Carrier) → carrierOf (carrierNumber c) ≡ Some c
 carrier-back c = grind arith
 
-kind-back : (k : Kind) → kindOf (kindNumber k) ≡ Some k
+pub kind-back : (k : Kind) → kindOf (kindNumber k) ≡ Some k
 kind-back k = grind arith
 
 pub operation-back : (o : Option Operation) → operationOf (operationByte o) ≡ o
 operation-back o = grind arith
 
-error-back : (e : Option ErrorCode) → errorOf (errorByte e) ≡ e
+pub error-back : (e : Option ErrorCode) → errorOf (errorByte e) ≡ e
 error-back e = grind arith
 
-word-back : (n : ℕ) → n / 256 * 256 + n % 256 ≡ n
+pub word-back : (n : ℕ) → n / 256 * 256 + n % 256 ≡ n
 word-back n = omega arith
 
 meant-row : (m : Message) → meant (m .carrier) (m .kind) (rowOf m) ≡ m

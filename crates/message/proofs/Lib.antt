@@ -2,3 +2,4 @@ pub mod Every
 pub mod Masks
 pub mod Back
 pub mod Accepted
+pub mod Faults

@@ -14,24 +14,6 @@ use crate::record::Message;
 use crate::record::MessageFault;
 use crate::table::permits;
 
-fn operation_byte(operation: Option<Operation>) -> u8
-    ensures { λ r. ⌜ r ≡ operationByte operation ⌝ }
-{
-    match operation {
-        Some(operation) => operation.number(),
-        None => 0,
-    }
-}
-
-fn error_byte(error: Option<ErrorCode>) -> u8
-    ensures { λ r. ⌜ r ≡ errorByte error ⌝ }
-{
-    match error {
-        Some(error) => error.number(),
-        None => 0,
-    }
-}
-
 // Of a two-byte field the more significant byte stands first.
 fn high(value: u16) -> u8
     ensures { λ r. ⌜ r ≡ value / 256 ⌝ }
@@ -64,6 +46,26 @@ fn used(row: &[u8; 16]) -> Option<u8>
 }
 
 impl Message {
+    // The number of the operation, 0 where there is none.
+    pub fn operation_number(&self) -> u8
+        ensures { λ r. ⌜ r ≡ operationByte (now (self .entry) .operation) ⌝ }
+    {
+        match self.operation {
+            Some(operation) => operation.number(),
+            None => 0,
+        }
+    }
+
+    // The number of the error code, 0 where there is none.
+    pub fn error_number(&self) -> u8
+        ensures { λ r. ⌜ r ≡ errorByte (now (self .entry) .error) ⌝ }
+    {
+        match self.error {
+            Some(error) => error.number(),
+            None => 0,
+        }
+    }
+
     // The first wrong byte of `row` from byte 2 on, where the message is what its fields say.
     fn first_wrong(&self, row: &[u8; 16]) -> Option<u8>
         ensures { λ r. ⌜ r ≡ first 2 (wrongs (now (self .entry)) (now (row .entry))) ⌝ }
@@ -139,7 +141,7 @@ impl Message {
         [
             self.carrier.number(),
             self.kind.number(),
-            operation_byte(self.operation),
+            self.operation_number(),
             self.leg,
             high(self.number),
             low(self.number),
@@ -147,7 +149,7 @@ impl Message {
             low(self.identity),
             high(self.address),
             low(self.address),
-            error_byte(self.error),
+            self.error_number(),
             0,
             0,
             0,
