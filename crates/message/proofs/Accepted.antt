@@ -14,7 +14,7 @@ use Rattle.std.specs.declared.result.Result.{Result}
 use Rattle.std.specs.Vec.{made}
 use Rattle.std.specs.shelf.Lists.{All}
 use Rattle.std.proofs.shelf.Ways.{tells}
-use Rattle.std.proofs.shelf.Tests.{eqb-true}
+use Rattle.std.proofs.shelf.Tests.{eqb-true, not-false}
 use Rattle.std.proofs.shelf.Elements.{all-getD, all-from-getD}
 use Rattle.std.proofs.shelf.Lists.{drop-all}
 use Rattle.message.specs.declared.codes.Carrier.{Carrier}
@@ -22,11 +22,12 @@ use Rattle.message.specs.declared.codes.Kind.{Kind}
 use Rattle.message.specs.declared.codes.Operation.{Operation}
 use Rattle.message.specs.declared.record.Message.{Message}
 use Rattle.message.specs.declared.record.MessageFault.{MessageFault}
-use Rattle.message.specs.Codes.{numbered, carriers, kinds, carrierNumber, carrierOf, kindNumber, kindOf, operationOf, errorOf}
+use Rattle.message.specs.Codes.{numbered, carriers, kinds, carrierNumber, kindNumber, operationOf, errorOf}
 use Rattle.message.specs.Table.{operationByte, standing, among, permitted}
 use Rattle.message.specs.Ranges.{inside, errorRange}
-use Rattle.message.specs.Format.{errorByte, byte, rowOf, meant, first, wrongs, fault, judged, unless, verdict, Lawful}
+use Rattle.message.specs.Format.{errorByte, byte, rowOf, meant, first, wrongs, fault, unless, verdict, Lawful}
 use Rattle.message.proofs.Every.{below}
+use Rattle.message.proofs.Outcomes.{Outcome, length-wrong, no-carrier, no-kind, fields, outcome}
 use Rattle.message.proofs.Back.{operation-back}
 use Rattle.message.specs.Laws.{AcceptedIsLawful, AcceptedIsRow, OneRow}
 
@@ -39,10 +40,6 @@ none-true : (i : ℕ) (ws : List Bool) → first i ws ≡ None → All (λ w. w 
 none-true i [] e = tt
 none-true i (true ∷ ws) e = let z : _≡_ {A = ℕ} 0 1 = cc in absurd (omega arith)
 none-true i (false ∷ ws) e = (refl, none-true (suc i) ws e)
-
-pub not-false : (b : Bool) → not b ≡ false → b ≡ true
-not-false true e = refl
-not-false false e = sym e
 
 -- an operation that may stand somewhere is named by its byte
 pub among-named : (n : ℕ) (os : List (Option Operation)) → among n os ≡ true → operationByte (operationOf n) ≡ n
@@ -59,46 +56,43 @@ error-named n h = eqb-true (errorByte (errorOf n)) n (below (λ i. eqb (errorByt
 record Accepted (bytes : List ℕ) (m : Message) : Type 0 where
   pub carrier : carrierNumber (m .carrier) ≡ byte bytes 0
   pub kind : kindNumber (m .kind) ≡ byte bytes 1
-  pub fields : m ≡ meant (m .carrier) (m .kind) bytes
+  pub said : m ≡ meant (m .carrier) (m .kind) bytes
   pub right : All (λ w. w ≡ false) (wrongs m bytes)
 
-unless-ok : (o : Option ℕ) (x m : Message) → unless o x ≡ Ok m → (o ≡ None) × (x ≡ m)
+no-fault : {X : Type 0} (i : ℕ) (m : Message) → Ok m ≡ fault i → X
+no-fault i m e = let z : _≡_ {A = ℕ} 0 1 = cc in absurd (omega arith)
+
+unless-ok : (o : Option ℕ) (x m : Message) → Ok m ≡ unless o x → (o ≡ None) × (x ≡ m)
 unless-ok None x m e = (refl, cc)
-unless-ok (Some i) x m e = let z : _≡_ {A = ℕ} 0 1 = cc in absurd (omega arith)
+unless-ok (Some i) x m e = no-fault i m e
 
-by-judged : (oc : Option Carrier) (ok : Option Kind) (bytes : List ℕ) (m : Message)
-    → ((c : Carrier) → oc ≡ Some c → carrierNumber c ≡ byte bytes 0)
-    → ((k : Kind) → ok ≡ Some k → kindNumber k ≡ byte bytes 1)
-    → judged oc ok bytes ≡ Ok m → Accepted bytes m
-by-judged None ok bytes m hc hk e = let z : _≡_ {A = ℕ} 0 1 = cc in absurd (omega arith)
-by-judged (Some c) None bytes m hc hk e = let z : _≡_ {A = ℕ} 0 1 = cc in absurd (omega arith)
-by-judged (Some c) (Some k) bytes m hc hk e =
-    let u = unless-ok (first 2 (wrongs (meant c k bytes) bytes)) (meant c k bytes) m e in
-    subst (Accepted bytes) (u .1)
-    (record { carrier = hc c refl; kind = hk k refl; fields = refl; right = none-true 2 (wrongs (meant c k bytes) bytes) (u .0) })
-
-whole : (b : Bool) (r : Result Message MessageFault) (m : Message) → cond b r (fault 16) ≡ Ok m → (b ≡ true) × (r ≡ Ok m)
-whole true r m e = (refl, e)
-whole false r m e = let z : _≡_ {A = ℕ} 0 1 = cc in absurd (omega arith)
+by-outcome : (bytes : List ℕ) (m : Message) → Outcome bytes (Ok m) → (length bytes ≡ 16) × Accepted bytes m
+by-outcome bytes m (length-wrong e) = no-fault 16 m e
+by-outcome bytes m (no-carrier none e) = no-fault 0 m e
+by-outcome bytes m (no-kind none e) = no-fault 1 m e
+by-outcome bytes m (fields c k l ec ek e) =
+    let u = unless-ok (first 2 (wrongs (meant c k bytes) bytes)) (meant c k bytes) m e in (
+      l,
+      subst (Accepted bytes) (u .1)
+          (record {
+            carrier = numbered-has carrierNumber (byte bytes 0) carriers c ec;
+            kind = numbered-has kindNumber (byte bytes 1) kinds k ek;
+            said = refl;
+            right = none-true 2 (wrongs (meant c k bytes) bytes) (u .0);
+          }),
+    )
 
 by-verdict : (bytes : List ℕ) (m : Message) → verdict bytes ≡ Ok m → (length bytes ≡ 16) × Accepted bytes m
-by-verdict bytes m e =
-    let w = whole (eqb (length bytes) 16) (judged (carrierOf (byte bytes 0)) (kindOf (byte bytes 1)) bytes) m e in (
-      eqb-true (length bytes) 16 (w .0),
-      by-judged (carrierOf (byte bytes 0)) (kindOf (byte bytes 1)) bytes m
-          (λ c. numbered-has carrierNumber (byte bytes 0) carriers c)
-          (λ k. numbered-has kindNumber (byte bytes 1) kinds k)
-          (w .1),
-    )
+by-verdict bytes m e = by-outcome bytes m (outcome bytes (Ok m) e)
 
 operation-stands : (bytes : List ℕ) (m : Message) → Accepted bytes m → operationByte (m .operation) ≡ byte bytes 2
 operation-stands bytes m a =
-    ap (λ x. operationByte (x .operation)) (a .fields)
+    ap (λ x. operationByte (x .operation)) (a .said)
     ∙ among-named (byte bytes 2) (standing (m .carrier) (m .kind)) (not-false (permitted (m .carrier) (m .kind) (byte bytes 2)) (a .right .0))
 
 error-stands : (bytes : List ℕ) (m : Message) → Accepted bytes m → errorByte (m .error) ≡ byte bytes 10
 error-stands bytes m a =
-    ap (λ x. errorByte (x .error)) (a .fields)
+    ap (λ x. errorByte (x .error)) (a .said)
     ∙ error-named (byte bytes 10)
     (error-small (m .kind) (byte bytes 10) (not-false (inside (errorRange (m .kind)) (byte bytes 10)) (a .right .1 .1 .1 .1 .1 .1 .1 .1 .0)))
 
@@ -136,7 +130,7 @@ pub accepted-is-row : AcceptedIsRow
 accepted-is-row bytes m small e =
     let v = by-verdict bytes m e in
     let a = v .1 in
-    let f = a .fields in
+    let f = a .said in
     let low : (i : ℕ) → i < 16 → byte bytes i < 256 = λ i h. all-getD (λ x. x < 256) bytes i 0 (omega arith) small in
     let number = word-is (m .number) (byte bytes 4) (byte bytes 5) (ap (λ x. x .number) f) (low 5 (omega arith)) in
     let identity = word-is (m .identity) (byte bytes 6) (byte bytes 7) (ap (λ x. x .identity) f) (low 7 (omega arith)) in

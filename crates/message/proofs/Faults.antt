@@ -12,7 +12,7 @@ use Rattle.std.specs.declared.result.Result.{Result}
 use Rattle.std.specs.declared.result.Result.the-variants.{Ok, Err}
 use mathlib.Core.Logic.{inl, inr}
 use Rattle.std.proofs.shelf.Ways.{tells}
-use Rattle.std.proofs.shelf.Tests.{cases-lt, cases-eq, lt-ltb, le-ltb}
+use Rattle.std.proofs.shelf.Tests.{not-false, cases-lt, cases-eq, lt-ltb, le-ltb}
 use Rattle.message.specs.declared.codes.Carrier.{Carrier}
 use Rattle.message.specs.declared.codes.Kind.{Kind}
 use Rattle.message.specs.declared.codes.Kind.the-variants.{Error}
@@ -24,41 +24,15 @@ use Rattle.message.specs.declared.record.MessageFault.{MessageFault}
 use Rattle.message.specs.Codes.{carriers, kinds, carrierNumber, carrierOf, kindNumber, kindOf, operationOf, errorOf}
 use Rattle.message.specs.Table.{operationByte, standing, permitted}
 use Rattle.message.specs.Ranges.{inside, ofKind, legRange, numberRange, identityRange, addressRange, errorRange}
-use Rattle.message.specs.Format.{errorByte, byte, word, rowOf, meant, first, wrongs, fault, judged, unless, verdict, Lawful}
+use Rattle.message.specs.Format.{errorByte, byte, word, rowOf, meant, first, wrongs, fault, unless, verdict, Lawful}
 use Rattle.message.specs.Laws.{Bytes, Begins, fieldEnd, FaultIsWrong, FaultIsFirst}
 use Rattle.message.proofs.Back.{carrier-back, kind-back, operation-back, error-back, word-back}
-use Rattle.message.proofs.Accepted.{numbered-has, not-false, among-named, error-small, error-named, word-is, zero-is}
+use Rattle.message.proofs.Outcomes.{Outcome, length-wrong, no-carrier, no-kind, fields, outcome, same-fault}
+use Rattle.message.proofs.Accepted.{numbered-has, among-named, error-small, error-named, word-is, zero-is}
 
--- how sixteen bytes come to a fault
-data Faulted (bytes : List ℕ) (i : ℕ) : Type 0 where
-  no-carrier : carrierOf (byte bytes 0) ≡ None → i ≡ 0 → Faulted bytes i
-  no-kind : (c : Carrier) → carrierOf (byte bytes 0) ≡ Some c → kindOf (byte bytes 1) ≡ None → i ≡ 1 → Faulted bytes i
-  field : (c : Carrier) (k : Kind) → carrierOf (byte bytes 0) ≡ Some c → kindOf (byte bytes 1) ≡ Some k → first 2 (wrongs (meant c k bytes) bytes) ≡ Some i → Faulted bytes i
-
-abbrev named : Result Message MessageFault → ℕ
-named (Ok m) = 0
-named (Err f) = f .byte
-
-same-fault : (i j : ℕ) → fault i ≡ fault j → i ≡ j
-same-fault i j e = ap named e
-
-unless-fault : (o : Option ℕ) (m : Message) (i : ℕ) → unless o m ≡ fault i → o ≡ Some i
+unless-fault : (o : Option ℕ) (m : Message) (i : ℕ) → fault i ≡ unless o m → o ≡ Some i
 unless-fault None m i e = let z : _≡_ {A = ℕ} 0 1 = cc in absurd (omega arith)
-unless-fault (Some j) m i e = ap Some (same-fault j i e)
-
-by-judged : (bytes : List ℕ) (i : ℕ) (oc : Option Carrier) (ok : Option Kind) → carrierOf (byte bytes 0) ≡ oc → kindOf (byte bytes 1) ≡ ok → judged oc ok bytes ≡ fault i → Faulted bytes i
-by-judged bytes i None ok ec ek e = no-carrier ec (sym (same-fault 0 i e))
-by-judged bytes i (Some c) None ec ek e = no-kind c ec ek (sym (same-fault 1 i e))
-by-judged bytes i (Some c) (Some k) ec ek e = field c k ec ek (unless-fault (first 2 (wrongs (meant c k bytes) bytes)) (meant c k bytes) i e)
-
-by-length : (b : Bool) (r : Result Message MessageFault) (i : ℕ) → cond b r (fault 16) ≡ fault i → i < 16 → r ≡ fault i
-by-length true r i e h = e
-by-length false r i e h = absurd (omega (arith, same-fault 16 i e))
-
-faulted : (bytes : List ℕ) (i : ℕ) → verdict bytes ≡ fault i → i < 16 → Faulted bytes i
-faulted bytes i e h =
-    by-judged bytes i (carrierOf (byte bytes 0)) (kindOf (byte bytes 1)) refl refl
-    (by-length (eqb (length bytes) 16) (judged (carrierOf (byte bytes 0)) (kindOf (byte bytes 1)) bytes) i e h)
+unless-fault (Some j) m i e = ap Some (same-fault j i (sym e))
 
 -- a fact of each place of a list, counted from n
 abbrev Each : (ℕ → Bool → Type 0) → ℕ → List Bool → Type 0
@@ -118,25 +92,27 @@ second-or-later [] n i e = let z : _≡_ {A = ℕ} 0 1 = cc in absurd (omega ari
 second-or-later (true ∷ ws) n i e = let s : n ≡ i = cc in omega arith
 second-or-later (false ∷ ws) n i e = omega (arith, second-or-later ws (suc n) i e)
 
-wrong : (bytes : List ℕ) (i : ℕ) (m : Message) → Faulted bytes i → Lawful m → Begins (fieldEnd i) bytes m → ⊥
-wrong bytes i m f h same =
+wrong : (bytes : List ℕ) (i : ℕ) (m : Message) → Outcome bytes (fault i) → i < 16 → Lawful m → Begins (fieldEnd i) bytes m → ⊥
+wrong bytes i m o lt h same =
     let after = end-after i in
     let carrier : carrierOf (byte bytes 0) ≡ Some (m .carrier) = ap carrierOf (same 0 (omega arith)) ∙ carrier-back (m .carrier) in
     let kind : 1 ≤ i → kindOf (byte bytes 1) ≡ Some (m .kind) = λ le. ap kindOf (same 1 (omega arith)) ∙ kind-back (m .kind) in
-    elim f [
-      | no-carrier none is ↦ let z : _≡_ {A = ℕ} 0 1 = cc in omega arith
-      | no-kind c some none is ↦ let k = kind (omega arith) in let z : _≡_ {A = ℕ} 0 1 = cc in omega arith
-      | field c k some-c some-k e ↦
-          let later = second-or-later (wrongs (meant c k bytes) bytes) 2 i e in
+    elim o [
+      | length-wrong e ↦ omega (arith, same-fault i 16 e)
+      | no-carrier none e ↦ let z : _≡_ {A = ℕ} 0 1 = cc in omega arith
+      | no-kind none e ↦ let k = kind (omega (arith, same-fault i 1 e)) in let z : _≡_ {A = ℕ} 0 1 = cc in omega arith
+      | fields c k l some-c some-k e ↦
+          let f = unless-fault (first 2 (wrongs (meant c k bytes) bytes)) (meant c k bytes) i e in
+          let later = second-or-later (wrongs (meant c k bytes) bytes) 2 i f in
           let kind′ = kind (omega arith) in
           let same-c : m .carrier ≡ c = cc in
           let same-k : m .kind ≡ k = cc in
           right-up-to (wrongs (meant (m .carrier) (m .kind) bytes) bytes) 2 i (fields-right bytes i m h same)
-          (ap (λ x. first 2 (wrongs (meant x (m .kind) bytes) bytes)) same-c ∙ ap (λ x. first 2 (wrongs (meant c x bytes) bytes)) same-k ∙ e)
+          (ap (λ x. first 2 (wrongs (meant x (m .kind) bytes) bytes)) same-c ∙ ap (λ x. first 2 (wrongs (meant c x bytes) bytes)) same-k ∙ f)
     ]
 
 pub fault-is-wrong : FaultIsWrong
-fault-is-wrong bytes i m e lt h same = wrong bytes i m (faulted bytes i e lt) h same
+fault-is-wrong bytes i m e lt h same = wrong bytes i m (outcome bytes (fault i) e) lt h same
 
 none-before : (ws : List Bool) (n i : ℕ) → i ≤ n → Each (λ j w. j < i → w ≡ false) n ws
 none-before [] n i h = tt
@@ -278,11 +254,13 @@ completed-begins c k bytes i small h h16 ec ek e j lt =
     ) (omega arith) (omega arith) lt
 
 -- a fault past byte 2 is found in a field
-first-wrong : (bytes : List ℕ) (i : ℕ) → ((j : ℕ) → byte bytes j < 256) → 2 < i → i < 16 → Faulted bytes i → (m : Message) × Lawful m × Begins i bytes m
-first-wrong bytes i small h h16 (no-carrier none is) = absurd (omega arith)
-first-wrong bytes i small h h16 (no-kind c some none is) = absurd (omega arith)
-first-wrong bytes i small h h16 (field c k ec ek e) =
-    (completed c k bytes i, completed-lawful c k bytes i h e, completed-begins c k bytes i small h h16 ec ek e)
+first-wrong : (bytes : List ℕ) (i : ℕ) → ((j : ℕ) → byte bytes j < 256) → 2 < i → i < 16 → Outcome bytes (fault i) → (m : Message) × Lawful m × Begins i bytes m
+first-wrong bytes i small h h16 (length-wrong e) = absurd (omega (arith, same-fault i 16 e))
+first-wrong bytes i small h h16 (no-carrier none e) = absurd (omega (arith, same-fault i 0 e))
+first-wrong bytes i small h h16 (no-kind none e) = absurd (omega (arith, same-fault i 1 e))
+first-wrong bytes i small h h16 (fields c k l ec ek e) =
+    let f = unless-fault (first 2 (wrongs (meant c k bytes) bytes)) (meant c k bytes) i e in
+    (completed c k bytes i, completed-lawful c k bytes i h f, completed-begins c k bytes i small h h16 ec ek f)
 
 byte-small : (bytes : List ℕ) → Bytes bytes → (j : ℕ) → byte bytes j < 256
 byte-small [] all j = omega arith
@@ -290,4 +268,4 @@ byte-small (b ∷ bs) all zero = all .0
 byte-small (b ∷ bs) all (suc j) = byte-small bs (all .1) j
 
 pub fault-is-first : FaultIsFirst
-fault-is-first bytes i all e h h16 = first-wrong bytes i (byte-small bytes all) h h16 (faulted bytes i e h16)
+fault-is-first bytes i all e h h16 = first-wrong bytes i (byte-small bytes all) h h16 (outcome bytes (fault i) e)

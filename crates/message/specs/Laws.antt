@@ -39,6 +39,6 @@ fieldEnd i = cond (eqb i 4 || (eqb i 6 || eqb i 8)) (i + 2) (i + 1)
 abbrev pub FaultIsWrong : Type 0
 FaultIsWrong = (bytes : List ℕ) (i : ℕ) (m : Message) → verdict bytes ≡ fault i → i < 16 → Lawful m → Begins (fieldEnd i) bytes m → ⊥
 
--- and not before: some lawful row has all bytes before the fault. (At bytes 1 and 2 there may be none: some carriers and kinds never stand together.)
+-- and not before: some lawful row has all bytes before the fault. (Past byte 2 only: some carriers and kinds never stand together, and byte 2 is wrong there.)
 abbrev pub FaultIsFirst : Type 0
 FaultIsFirst = (bytes : List ℕ) (i : ℕ) → Bytes bytes → verdict bytes ≡ fault i → 2 < i → i < 16 → (m : Message) × Lawful m × Begins i bytes m

@@ -25,7 +25,7 @@ bare = None ∷ []
 abbrev pub only : Operation → List (Option Operation)
 only o = Some o ∷ []
 
--- FACILITY invokes every operation but the transfer's SETUP
+-- FACILITY invokes every operation but callTransferSetup
 abbrev pub invoked : List (Option Operation)
 invoked =
     Some CallTransferIdentify ∷ Some CallTransferAbandon ∷ Some CallTransferInitiate ∷
