@@ -1,0 +1,3 @@
+pub mod Bounds
+pub mod Rings
+pub mod Spills
