@@ -1,10 +1,12 @@
 -- The front of a list of eight places, behind the list of a queue below.
 use mathlib.Core.Path.{_≡_, refl, sym, ap, _∙_}
+use mathlib.Core.Bool.{Bool, true, false}
 use mathlib.Core.List.{List, [], _∷_, _++_}
 use mathlib.Core.Logic.{⊎-elim}
 use Prim.Native.Nat.{ℕ, zero, suc, _+_, _-_, _<_, _≤_, min}
 use native.Mathlib.Omega.{arith}
 use lib.ListN.{length, getD, set, take, drop}
+use Rattle.std.specs.Orderings.{When}
 use Rattle.std.proofs.shelf.Tests.{cases-lt}
 use Rattle.std.proofs.shelf.Lists.{append-nil, append-assoc, nil-from-length, length-take, take-all, take-append-le, take-more-set}
 
@@ -42,10 +44,12 @@ shifted (y ∷ xs) zs (suc c) n x e l a r =
     ∙ ap (λ ws. x ∷ ws) (sym (ap (take (n - 1)) r ∙ take-append-le (n - 1) xs (y ∷ []) fits ∙ front xs c (n - 1) k))
 
 -- the first of the own moved below leaves the whole list as it was
-pub moved : {X : Type 0} (ws us ss ts rs : List X) (x y : X) → us ≡ ws ++ x ∷ [] → ss ≡ x ∷ rs → ss ≡ y ∷ ts → us ++ ts ≡ ws ++ ss
-moved ws us ss ts rs x y a b d =
-    let e : x ∷ ts ≡ ss = cc in
-    ap (λ l. l ++ ts) a ∙ append-assoc ws (x ∷ []) ts ∙ ap (λ l. ws ++ l) e
+pub moved-list : {X : Type 0} (ws us ss ts : List X) (m : X) → us ≡ ws ++ m ∷ [] → ss ≡ m ∷ ts → us ++ ts ≡ ws ++ ss
+moved-list ws us ss ts m a b = ap (λ l. l ++ ts) a ∙ append-assoc ws (m ∷ []) ts ∙ ap (λ l. ws ++ l) (sym b)
+
+pub by-when : {X : Type 0} (r : Bool) (P Q : Type 0) → When r P Q → (P → X) → (Q → X) → X
+by-when true P Q h p q = p h
+by-when false P Q h p q = q h
 
 -- one more below, where nothing is held
 pub more-below : {X : Type 0} (ws us ss : List X) (m : X) → length ss ≡ 0 → us ≡ ws ++ m ∷ [] → us ++ ss ≡ (ws ++ ss) ++ m ∷ []

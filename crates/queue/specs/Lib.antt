@@ -1,3 +1,4 @@
 pub mod Bounds
 pub mod Rings
 pub mod Spills
+pub mod Overflows

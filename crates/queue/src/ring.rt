@@ -50,7 +50,7 @@ impl<'a> RingQueue<'a> {
 
     // An empty queue on these records.
     pub fn new(records: &'a mut [Message]) -> Result<RingQueue<'a>, WrongSize>
-        ensures { λ r. ⌜ elim r [ Ok q ↦ (recordsOf q ≡ now (records .entry)) × (q .head ≡ 0) × (q .count ≡ 0) × (2 ≤ length (now (records .entry))) × (length (now (records .entry)) ≤ 4096) | Err _ ↦ (2 ≤ length (now (records .entry)) → length (now (records .entry)) ≤ 4096 → ⊥) ] ⌝ }
+        ensures { λ r. ⌜ elim r [ Ok q ↦ (recordsOf q ≡ now (records .entry)) × (ringWaiting q ≡ []) × (2 ≤ length (now (records .entry))) × (length (now (records .entry)) ≤ 4096) | Err _ ↦ (2 ≤ length (now (records .entry)) → length (now (records .entry)) ≤ 4096 → ⊥) ] ⌝ }
     {
         if records.len() > LARGEST {
             return Err(WrongSize);
