@@ -14,8 +14,6 @@ use crate::meaning::Queue;
 use crate::spill::Spill;
 use message::Message;
 
-const PLACES: usize = 8;
-
 // Keeps up to eight messages that the queue below has no place for. Its list is the list below, then its own.
 #[derive(Drop)]
 pub struct OverflowQueue<Q> {
@@ -75,7 +73,7 @@ pub impl<Q: Queue> Queue for OverflowQueue<Q> as OverflowQueueQueue {
             return Ok(());
         }
         let _ = self.refill();
-        if self.own.len() == PLACES {
+        if self.own.is_full() {
             return Err(Full);
         }
         self.own.push(message);
@@ -108,7 +106,7 @@ pub impl<Q: Queue> Queue for OverflowQueue<Q> as OverflowQueueQueue {
     }
 
     fn free(&self) -> usize {
-        let left = PLACES - self.own.len();
+        let left = self.own.left();
         (self.below.free() + left).min(2)
     }
 }

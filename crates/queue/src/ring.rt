@@ -21,9 +21,11 @@ impl WrongSize {
     pub fn number(self) -> u8
         ensures { λ r. ⌜ r ≡ 2 ⌝ }
     {
-        2
+        REFUSAL
     }
 }
+
+const REFUSAL: u8 = 2;
 
 const LARGEST: usize = 4096;
 
@@ -74,6 +76,14 @@ impl<'a> RingQueue<'a> {
         ensures { λ r. ⌜ r ≡ ringCapacity (now (self .entry)) ⌝ }
     {
         2 + self.rest.len()
+    }
+
+    // How many wait.
+    fn len(&self) -> usize
+        ensures all { λ r. ⌜ r ≡ length (ringWaiting (now (self .entry))) ⌝ }
+        ensures most { λ r. ⌜ r ≤ ringCapacity (now (self .entry)) ⌝ }
+    {
+        self.count.min(self.size())
     }
 
     fn record(&self, place: usize) -> Message
@@ -166,12 +176,10 @@ pub impl Queue for RingQueue<'_> as RingQueueQueue {
     }
 
     fn has_waiting(&self) -> bool {
-        self.count > 0
+        self.len() > 0
     }
 
     fn free(&self) -> usize {
-        let size = self.size();
-        let count = self.count.min(size);
-        (size - count).min(2)
+        (self.size() - self.len()).min(2)
     }
 }

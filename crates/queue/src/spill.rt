@@ -1,13 +1,16 @@
 // Eight places for messages that a queue below has no place for.
 ghost use mathlib.Core.Path.{_≡_};
 ghost use mathlib.Core.List.{List, [], _∷_, _++_};
-ghost use Prim.Native.Nat.{_<_, _≤_};
+ghost use Prim.Native.Nat.{_+_, _<_, _≤_};
+ghost use lib.Dec.{eqb};
 ghost use lib.ListN.{length, getD};
 ghost use Rattle.message.specs.declared.record.Message.{Message};
 ghost use Rattle.queue.specs.Spills.{held};
 use message::Carrier;
 use message::Kind;
 use message::Message;
+
+const PLACES: usize = 8;
 
 // What stands in a place that holds nothing.
 const BLANK: Message = Message {
@@ -59,6 +62,20 @@ impl Spill {
     {
         let most = size(&self.places);
         self.count.min(most)
+    }
+
+    pub fn is_full(&self) -> bool
+        ensures all { λ r. ⌜ r ≡ eqb (length (held (now (self .entry)))) 8 ⌝ }
+        ensures most { λ _. ⌜ length (held (now (self .entry))) ≤ 8 ⌝ }
+    {
+        self.len() == PLACES
+    }
+
+    // How many more it has places for.
+    pub fn left(&self) -> usize
+        ensures all { λ r. ⌜ r + length (held (now (self .entry))) ≡ 8 ⌝ }
+    {
+        PLACES - self.len()
     }
 
     // One more at the end.

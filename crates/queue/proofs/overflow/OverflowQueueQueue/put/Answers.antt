@@ -3,6 +3,7 @@ use mathlib.Core.Path.{refl, sym, ap, _∙_}
 use mathlib.Core.List.{_++_}
 use lib.ListN.{length}
 use Rattle.std.proofs.shelf.Lists.{length-append}
+use Rattle.std.proofs.shelf.Tests.{eqb-true, eqb-false}
 use Rattle.queue.specs.Spills.{held}
 use Rattle.queue.proofs.Spilling.{moved-list, more-below, more-held, by-when}
 use Rattle.queue.proofs.overflow.OverflowQueueQueue.put.Needs as need
@@ -34,12 +35,13 @@ returns-in-Err g c =
       settled = λ _ some. ap (λ b. length (g .Q·Queue .waiting b)) same ∙ e .cases .0 ∙ ap (g .Q·Queue .capacity) (sym same);
     }
 
-pub returns-then-len-eq-PLACES : need.returns-then-len-eq-PLACES
-returns-then-len-eq-PLACES g c =
+pub returns-then-is-full : need.returns-then-is-full
+returns-then-is-full g c =
     let ws = g .Q·Queue .waiting (c .args .self .now .below) in
     let ss = held (c .args .self .now .own) in
     let long = length-append ws ss in
     let b = c .refill .ensures .bounds (omega arith) in
+    let eight = eqb-true (length (held (c .refill .last .self .own))) 8 (sym (c .is-full .ensures .all) ∙ c .if-is-full .taken) in
     by-when (c .refill .result) _ _ (c .refill .ensures .cases)
     (λ moved. absurd (omega (arith, ap length (moved .1 .2))))
     (λ stayed.
@@ -61,6 +63,7 @@ returns g c =
     let ts = held (c .refill .last .self .own) in
     let long = length-append ws ss in
     let b = c .refill .ensures .bounds (omega arith) in
+    let fewer = eqb-false (length ts) 8 (sym (c .is-full .ensures .all) ∙ c .if-is-full .left) in
     by-when (c .refill .result) _ _ (c .refill .ensures .cases)
     (λ moved.
     record {

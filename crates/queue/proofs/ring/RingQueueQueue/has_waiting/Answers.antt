@@ -1,6 +1,0 @@
-use borrow.Author.Needs.{needs}
-use Rattle.queue.proofs.Turning.{length-ringed}
-use Rattle.queue.proofs.ring.RingQueueQueue.has_waiting.Needs as need
-
-pub returns : need.returns
-returns c = search (needs, length-ringed)
