@@ -59,6 +59,7 @@ pub impl<Q: Queue> Queue for OverflowQueue<Q> as OverflowQueueQueue {
 
     ghost capacity = { allCapacity Q·Queue };
 
+    // Below while nothing is held here, else behind what is held.
     fn put(&mut self, message: Message) -> Result<(), Full>
         ensures bounds { λ _. ⌜ Bounds (allWaiting Q·Queue (now (self .entry))) (allCapacity Q·Queue (now (self .entry))) ⌝ }
         ensures kept { λ _. ⌜ allCapacity Q·Queue (now (self .exit)) ≡ allCapacity Q·Queue (now (self .entry)) ⌝ }
@@ -72,6 +73,7 @@ pub impl<Q: Queue> Queue for OverflowQueue<Q> as OverflowQueueQueue {
             }
             return Ok(());
         }
+        // Where the own places are in use the queue below is full, unless someone else emptied it: then its place goes first.
         let _ = self.refill();
         if self.own.is_full() {
             return Err(Full);
@@ -80,6 +82,7 @@ pub impl<Q: Queue> Queue for OverflowQueue<Q> as OverflowQueueQueue {
         Ok(())
     }
 
+    // From below; the first of the own then moves into the place that came free.
     fn take(&mut self) -> Option<Message>
         ensures bounds { λ _. ⌜ Bounds (allWaiting Q·Queue (now (self .entry))) (allCapacity Q·Queue (now (self .entry))) ⌝ }
         ensures kept { λ _. ⌜ allCapacity Q·Queue (now (self .exit)) ≡ allCapacity Q·Queue (now (self .entry)) ⌝ }
