@@ -1,0 +1,5 @@
+pub mod Digits
+pub mod Firsts
+pub mod Swapping
+pub mod Sifting
+pub mod Heaping
