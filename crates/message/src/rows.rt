@@ -91,6 +91,7 @@ impl Message {
         used(row)
     }
 
+    // The verdict alone; `read` adds what the laws say of it.
     fn judge(bytes: &[u8]) -> Result<Message, MessageFault>
         ensures { λ r. ⌜ r ≡ verdict (now (bytes .entry)) ⌝ }
     {
@@ -135,6 +136,7 @@ impl Message {
         self.encode()
     }
 
+    // The row alone; `write` adds that it reads back.
     fn encode(&self) -> [u8; 16]
         ensures { λ r. ⌜ r ≡ rowOf (now (self .entry)) ⌝ }
     {

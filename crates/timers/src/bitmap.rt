@@ -38,7 +38,7 @@ impl BitmapTimers {
     }
 
     // The first running key, and how many keys were looked at: as many as the word has ones.
-    pub fn first_of(&self) -> (Option<Due>, u32)
+    pub fn first_counted(&self) -> (Option<Due>, u32)
         ensures first { λ r. ⌜ elim (r .0) [ Some d ↦ First (bitmap-meant (now (self .entry) .running) (now (self .entry) .deadlines)) (d .key) (d .deadline) | None ↦ ((k : ℕ) → bitmap-meant (now (self .entry) .running) (now (self .entry) .deadlines) k ≡ None) ] ⌝ }
         ensures turns { λ r. ⌜ r .1 ≡ ones (now (self .entry) .running) ⌝ }
     {
@@ -91,6 +91,6 @@ pub impl Timers for BitmapTimers as BitmapTimersTimers {
     }
 
     fn first(&self) -> Option<Due> {
-        self.first_of().0
+        self.first_counted().0
     }
 }

@@ -133,10 +133,10 @@ fn both_agree() -> Result<(), Fail> {
 #[test]
 fn turns_are_running_keys() -> Result<(), Fail> {
     let mut bitmap = BitmapTimers::new();
-    check_eq(bitmap.first_of().1, 0)?;
+    check_eq(bitmap.first_counted().1, 0)?;
     for key in 0..64u8 {
         check_eq(bitmap.set(key, 5), Ok(()))?;
-        check_eq(bitmap.first_of().1, u32::from(key) + 1)?;
+        check_eq(bitmap.first_counted().1, u32::from(key) + 1)?;
     }
     Ok(())
 }

@@ -6,8 +6,8 @@ use lib.Count.{trailingZeros, ones, ones-le}
 use Rattle.timers.specs.Bitmaps.{bitmap-meant}
 use Rattle.timers.proofs.Digits.{lowest, cleared-less, cleared-ones}
 use Rattle.timers.proofs.Firsts.{Best, meant-none, best-start, best-keeps, best-takes, best-ends}
-use Rattle.timers.proofs.bitmap.BitmapTimers.first_of.Needs as need
-use Rattle.timers.proofs.bitmap.BitmapTimers.first_of.Needs.{then-due-at, else-due-at}
+use Rattle.timers.proofs.bitmap.BitmapTimers.first_counted.Needs as need
+use Rattle.timers.proofs.bitmap.BitmapTimers.first_counted.Needs.{then-due-at, else-due-at}
 
 pub returns-then-running-eq0 : need.returns-then-running-eq0
 returns-then-running-eq0 c =
