@@ -37,9 +37,9 @@ impl<Q: Queue> Holder<Q> {
         }
     }
 
-    // The first message, if one waits. The count stays.
+    // The first message, or none exactly when none waits. The count stays.
     pub fn next(&mut self) -> Option<Message>
-        ensures { λ r. ⌜ elim r [ Some m ↦ (Q·Queue .waiting (now (self .entry) .queue) ≡ m ∷ Q·Queue .waiting (now (self .exit) .queue)) × (now (self .exit) .sent ≡ now (self .entry) .sent) | None ↦ (now (self .exit) .queue ≡ now (self .entry) .queue) × (now (self .exit) .sent ≡ now (self .entry) .sent) ] ⌝ }
+        ensures { λ r. ⌜ elim r [ Some m ↦ (Q·Queue .waiting (now (self .entry) .queue) ≡ m ∷ Q·Queue .waiting (now (self .exit) .queue)) × (now (self .exit) .sent ≡ now (self .entry) .sent) | None ↦ (Q·Queue .waiting (now (self .entry) .queue) ≡ []) × (now (self .exit) .queue ≡ now (self .entry) .queue) × (now (self .exit) .sent ≡ now (self .entry) .sent) ] ⌝ }
     {
         match self.queue.take() {
             Some(message) => Some(message),

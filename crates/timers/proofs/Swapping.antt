@@ -13,10 +13,6 @@ pub exch-first : (i j : ℕ) → exch i j i ≡ j
 unfolding exch
 exch-first i j = grind (arith, tells)
 
-pub exch-second : (i j : ℕ) → exch i j j ≡ i
-unfolding exch
-exch-second i j = grind (arith, tells)
-
 pub exch-kept : (i j n x : ℕ) → i < n → j < n → ltb (exch i j x) n ≡ ltb x n
 unfolding exch
 exch-kept i j n x a b = grind (arith, tells)

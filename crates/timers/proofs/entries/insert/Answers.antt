@@ -3,7 +3,7 @@ use native.Mathlib.Omega.{arith}
 use Prim.Native.Nat.{_+_, _<_}
 use lib.ListN.{getD, set, length-set}
 use borrow.Author.Tests.{ltb-true, lt-ltb}
-use Rattle.timers.proofs.Swapping.{exch-first, exch-second}
+use Rattle.timers.proofs.Swapping.{exch-first}
 use Rattle.timers.proofs.Heaping.{meant-set, comes-in, loose-in}
 use Rattle.timers.proofs.entries.insert.Needs as need
 

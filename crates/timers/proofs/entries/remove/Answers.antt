@@ -4,7 +4,7 @@ use Prim.Native.Nat.{_+_, _-_, _<_, _≤_}
 use lib.ListN.{getD, set, length-set}
 use borrow.Author.Tests.{ltb-true, lt-ltb, ltb-false}
 use Rattle.std.proofs.shelf.Tests.{le-ltb}
-use Rattle.timers.proofs.Swapping.{exch-first, exch-second}
+use Rattle.timers.proofs.Swapping.{exch-first}
 use Rattle.timers.proofs.Heaping.{meant-stop, goes-out, loose-out, order-out}
 use Rattle.timers.proofs.entries.remove.Needs as need
 
