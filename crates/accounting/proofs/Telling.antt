@@ -6,6 +6,7 @@ use Rattle.message.specs.declared.codes.Operation.TheVariants as operation
 use Rattle.message.specs.declared.codes.ErrorCode.TheVariants as error
 use Rattle.message.specs.declared.record.Message.{Message}
 use Rattle.leg.specs.declared.place.Place.{Place}
+use Rattle.leg.specs.declared.codes.Refusal.{Refusal}
 use Rattle.leg.specs.declared.codes.Note.TheVariants as note
 use Rattle.leg.specs.declared.codes.Cause.TheVariants as cause
 use Rattle.leg.specs.declared.record.Phase.TheVariants as phase

@@ -1,12 +1,10 @@
 -- What is printed of a message can be put in again.
-use Rattle.std.proofs.Common.{◌≡◌, ℕ, ◌+◌, ◌*◌, ◌/◌, ◌%◌, ◌<◌, ◌≤◌, true, eqb, List, [], ◌∷◌, Some, None, sym, refl, ap, ◌∙◌, arith}
+use Rattle.std.proofs.Common.{◌≡◌, ℕ, ◌+◌, ◌*◌, ◌/◌, ◌%◌, ◌<◌, [], ◌∷◌, Some, refl, ap, ◌∙◌, arith}
 use Rattle.std.proofs.lemmas.Bool.Decides.{nat_tests}
-use Rattle.message.specs.declared.record.Message.{Message}
-use Rattle.message.specs.Format.{row_of, Lawful}
-use Rattle.message.specs.Laws.{Bytes}
+use Rattle.message.specs.Format.{row_of}
 use Rattle.message.proofs.Back.{reads_back, row_bytes}
-use Rattle.dump.specs.Hex.{digit_of, glyph, paired, before, hex_row, hex_text}
-use Rattle.dump.specs.Lines.{message_text, told, text_of}
+use Rattle.dump.specs.Hex.{digit_of, glyph, paired, hex_text}
+use Rattle.dump.specs.Lines.{told, text_of}
 use Rattle.dump.specs.Laws.{DigitsBack, PrintsAgain}
 
 digit_back : (n : ℕ) → n < 16 → digit_of (glyph n) ≡ Some n

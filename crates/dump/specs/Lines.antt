@@ -1,5 +1,5 @@
 -- What is printed for a line of input, and what is counted.
-use Rattle.std.specs.Prelude.{ℕ, ◌+◌, ◌-◌, ◌^◌, min, Bool, true, false, cond, ◌&&◌, List, [], ◌∷◌, ◌++◌, length, take, Some, None, Ok, Err, codes, decimal, Option, Result, ◌==◌, nat_le, slice_index}
+use Rattle.std.specs.Prelude.{ℕ, ◌+◌, ◌-◌, ◌^◌, min, Bool, cond, ◌&&◌, List, ◌++◌, length, take, Some, None, Ok, Err, codes, decimal, Option, Result, ◌==◌, nat_le, slice_index}
 use Rattle.message.specs.declared.record.Message.{Message}
 use Rattle.message.specs.declared.record.MessageFault.{MessageFault}
 use Rattle.message.specs.Format.{row_of, verdict}

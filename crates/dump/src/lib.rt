@@ -1,4 +1,6 @@
 // What the program msgdump prints, line by line.
+#![tactic(auto)]
+
 mod hex;
 pub mod laws;
 pub mod lines;

@@ -1,4 +1,6 @@
 // The record of one leg, and the shape of what it does at one event.
+#![tactic(auto)]
+
 pub mod codes;
 pub mod place;
 mod places;

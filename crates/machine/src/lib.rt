@@ -1,4 +1,6 @@
 // The machine of one leg: what it does at one event, and at a word of another leg.
+#![tactic(auto)]
+
 mod calls;
 pub mod event;
 mod events;

@@ -1,5 +1,5 @@
 -- The row of a lawful message reads back as that message.
-use Rattle.std.proofs.Common.{◌≡◌, ℕ, ◌+◌, ◌*◌, ◌/◌, ◌%◌, ◌<◌, ◌≤◌, Bool, true, false, List, [], ◌∷◌, Some, None, Ok, Err, Option, sym, refl, ap, ◌∙◌, arith}
+use Rattle.std.proofs.Common.{◌≡◌, ℕ, ◌+◌, ◌*◌, ◌/◌, ◌%◌, ◌<◌, ◌≤◌, true, Some, None, Option, ap, ◌∙◌, arith}
 use Rattle.message.specs.declared.codes.Carrier.{Carrier}
 use Rattle.message.specs.declared.codes.Kind.{Kind}
 use Rattle.message.specs.declared.codes.Operation.{Operation}
@@ -7,7 +7,7 @@ use Rattle.message.specs.declared.codes.ErrorCode.{ErrorCode}
 use Rattle.message.specs.declared.record.Message.{Message}
 use Rattle.message.specs.Codes.{carrier_number, carrier_of, kind_number, kind_of, operation_of, error_of}
 use Rattle.message.specs.Table.{operation_byte}
-use Rattle.message.specs.Format.{error_byte, row_of, meant, first, wrongs, judged, unless, verdict, Lawful}
+use Rattle.message.specs.Format.{error_byte, row_of, meant, first, wrongs, unless, Lawful}
 use Rattle.message.specs.Laws.{Bytes, ReadsBack}
 use Rattle.message.specs.declared.ranges.Span.{Span}
 use Rattle.message.specs.Ranges.{inside, number_range, identity_range, address_range}

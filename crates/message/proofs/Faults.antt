@@ -1,5 +1,5 @@
 -- A fault names the first wrong byte: no lawful row begins so, and some lawful row has all that stands before it.
-use Rattle.std.proofs.Common.{◌≡◌, ℕ, zero, suc, ◌+◌, ◌*◌, ◌/◌, ◌%◌, ◌<◌, ◌≤◌, Bool, true, false, cond, not, eqb, ltb, List, [], ◌∷◌, length, get_or, Some, None, Ok, Err, Option, Result, sym, refl, ap, ◌∙◌, subst, inl, inr, arith}
+use Rattle.std.proofs.Common.{◌≡◌, ℕ, zero, suc, ◌+◌, ◌*◌, ◌/◌, ◌%◌, ◌<◌, ◌≤◌, Bool, true, false, cond, not, ltb, List, [], ◌∷◌, Some, None, Option, sym, refl, ap, ◌∙◌, subst, inl, inr, arith}
 use Rattle.std.proofs.lemmas.Bool.Decides.{nat_tests}
 use Rattle.std.proofs.lemmas.Bool.{not-false, cases_lt, cases_eq, lt-ltb, le-ltb}
 use Rattle.message.specs.declared.codes.Carrier.{Carrier}
@@ -9,13 +9,12 @@ use Rattle.message.specs.declared.codes.ErrorCode.{ErrorCode}
 use Rattle.message.specs.declared.codes.ErrorCode.TheVariants.{Unspecified}
 use Rattle.message.specs.declared.ranges.Span.{Span}
 use Rattle.message.specs.declared.record.Message.{Message}
-use Rattle.message.specs.declared.record.MessageFault.{MessageFault}
 use Rattle.message.specs.Codes.{carriers, kinds, carrier_number, carrier_of, kind_number, kind_of, operation_of, error_of}
-use Rattle.message.specs.Table.{operation_byte, standing, permitted}
+use Rattle.message.specs.Table.{standing, permitted}
 use Rattle.message.specs.Ranges.{inside, of_kind, leg_range, number_range, identity_range, address_range, error_range}
-use Rattle.message.specs.Format.{error_byte, byte, word, row_of, meant, first, wrongs, fault, unless, verdict, Lawful}
+use Rattle.message.specs.Format.{error_byte, byte, word, row_of, meant, first, wrongs, fault, unless, Lawful}
 use Rattle.message.specs.Laws.{Bytes, Begins, field_end, FaultIsWrong, FaultIsFirst}
-use Rattle.message.proofs.Back.{carrier_back, kind_back, operation_back, error_back, word_back}
+use Rattle.message.proofs.Back.{carrier_back, kind_back, operation_back, word_back}
 use Rattle.message.proofs.Outcomes.{Outcome, length_wrong, no_carrier, no_kind, fields, outcome, same_fault}
 use Rattle.message.proofs.Accepted.{numbered_has, among_named, error_small, error_named, word_is, zero_is}
 

@@ -1,7 +1,7 @@
 -- From the least to the most that each field of a message may hold.
 use Rattle.std.specs.Prelude.{ℕ, Bool, true, false, cond, ◌&&◌, ◌||◌, Some, None, Option, ◌==◌, nat_le}
 use Rattle.message.specs.declared.codes.Kind.{Kind}
-use Rattle.message.specs.declared.codes.Kind.TheVariants.{Nothing, Invoke, Result, Error, Reject}
+use Rattle.message.specs.declared.codes.Kind.TheVariants.{Invoke, Result, Error}
 use Rattle.message.specs.declared.codes.Operation.{Operation}
 use Rattle.message.specs.declared.codes.Operation.TheVariants.{CallTransferIdentify, CallTransferAbandon, CallTransferInitiate, CallTransferSetup, HoldNotific, RetrieveNotific, RemoteHold, RemoteRetrieve}
 use Rattle.message.specs.declared.ranges.Span.{Span}

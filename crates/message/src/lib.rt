@@ -1,4 +1,6 @@
 // Signalling messages in sixteen bytes: what they are, how they are read and how they are written.
+#![tactic(auto)]
+
 pub mod codes;
 pub mod laws;
 mod ranges;

@@ -1,4 +1,6 @@
 // Reads rows of hexadecimal digits from standard input, and says each in words or names its first wrong byte.
+#![tactic(auto)]
+
 use dump::{Tally, describe};
 use std::alloc::Global;
 use std::io;

@@ -1,5 +1,5 @@
 -- An overflow queue, by the meaning of the queue below.
-use Rattle.std.specs.Prelude.{◌≡◌, ℕ, ◌+◌, List, ◌++◌}
+use Rattle.std.specs.Prelude.{ℕ, ◌+◌, List, ◌++◌}
 use Rattle.message.specs.declared.record.Message.{Message}
 use Rattle.queue.specs.declared.meaning.Queue as queue
 use Rattle.queue.specs.declared.overflow.OverflowQueue.{OverflowQueue}

@@ -1,5 +1,5 @@
 -- Whatever is heard leaves a leg sound.
-use Rattle.std.proofs.Common.{◌≡◌, ℕ, Bool, true, false, cond, ◌&&◌, ◌||◌, eqb, Some, None, Option, Result, sym, refl, ap, ◌∙◌, subst, arith}
+use Rattle.std.proofs.Common.{◌≡◌, ℕ, Bool, true, false, cond, ◌&&◌, ◌||◌, eqb, Some, None, Option, sym, refl, ap, ◌∙◌, subst, arith}
 use Rattle.std.proofs.lemmas.Bool.Decides.{nat_tests}
 use Rattle.std.proofs.lemmas.Bool.{false≢true}
 use Rattle.message.specs.declared.codes.Carrier.{Carrier}
@@ -25,7 +25,6 @@ use Rattle.leg.specs.declared.record.Transfer.{Transfer}
 use Rattle.leg.specs.declared.record.Transfer.TheVariants as transfer
 use Rattle.leg.specs.declared.record.Holder.{Holder}
 use Rattle.leg.specs.declared.record.Holder.TheVariants as holder
-use Rattle.leg.specs.declared.record.Held.{Held}
 use Rattle.leg.specs.declared.record.Held.TheVariants as held
 use Rattle.leg.specs.declared.record.Leg.{Leg}
 use Rattle.leg.specs.declared.reaction.TimerChange.TheVariants as change

@@ -10,7 +10,6 @@ use Rattle.leg.specs.declared.codes.Note.TheVariants as note
 use Rattle.leg.specs.declared.codes.Cause.TheVariants as cause
 use Rattle.leg.specs.declared.record.Owed.{Owed}
 use Rattle.leg.specs.declared.record.Phase.TheVariants as phase
-use Rattle.leg.specs.declared.record.Transfer.{Transfer}
 use Rattle.leg.specs.declared.record.Transfer.TheVariants as transfer
 use Rattle.leg.specs.declared.record.Holder.TheVariants as holder
 use Rattle.leg.specs.declared.record.Held.TheVariants as held

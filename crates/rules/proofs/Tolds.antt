@@ -20,7 +20,6 @@ use Rattle.leg.specs.declared.reaction.Named.TheVariants as named
 use Rattle.leg.specs.Views.{free_leg, is_active, with_transfer, when_asked, when_bound, calling_leg}
 use Rattle.machine.specs.Messages.{notice_on}
 use Rattle.machine.specs.Reactions.{leaving}
-use Rattle.machine.specs.Calls.{placing}
 use Rattle.rules.specs.Sound.{InWord, InIdentity, NextInRange, OwedInRange, Sound, free, calling, ringing, alerting, active, SoundTransfer, idle, identify, initiate, setup, asked, bound, SoundBond, LawfulIf}
 use Rattle.machine.specs.declared.event.Event.TheVariants as event
 use Rattle.rules.specs.Events.{FineTold, FineToldIf}

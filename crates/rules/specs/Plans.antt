@@ -1,5 +1,5 @@
 -- A plan, and how it is carried out.
-use Rattle.std.specs.Prelude.{ℕ, ◌+◌, ◌*◌, Bool, false, cond, ◌&&◌, ◌||◌, List, [], ◌∷◌, ◌++◌, length, set, Some, None, Ok, Err, Option, Result, nat_eq, nat_lt, slice_set}
+use Rattle.std.specs.Prelude.{ℕ, ◌+◌, ◌*◌, Bool, false, cond, ◌&&◌, ◌||◌, List, [], ◌∷◌, ◌++◌, length, Some, None, Ok, Err, Option, Result, nat_eq, nat_lt, slice_set}
 use Rattle.std.specs.Map.{update}
 use Rattle.message.specs.declared.codes.Kind.TheVariants.{Invoke}
 use Rattle.message.specs.declared.record.Message.{Message}

@@ -15,7 +15,6 @@ use Rattle.leg.specs.declared.place.Place.{Place}
 use Rattle.leg.specs.declared.record.Owed.{Owed}
 use Rattle.leg.specs.declared.record.Phase.TheVariants as phase
 use Rattle.leg.specs.declared.record.Bond.TheVariants as bond
-use Rattle.leg.specs.declared.record.Transfer.{Transfer}
 use Rattle.leg.specs.declared.record.Transfer.TheVariants as transfer
 use Rattle.leg.specs.declared.record.Holder.TheVariants as holder
 use Rattle.leg.specs.declared.record.Held.TheVariants as held

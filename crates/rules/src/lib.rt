@@ -1,4 +1,6 @@
 // The behaviour of the board: what it is asked, what it answers, and the rules that the answers follow.
+#![tactic(auto)]
+
 pub mod answer;
 pub mod call;
 pub mod laws;

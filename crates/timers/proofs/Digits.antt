@@ -1,8 +1,8 @@
 -- The digits of a word: what or, and, a power, a complement and w & (w - 1) do to them.
-use Rattle.std.proofs.Common.{◌≡◌, ℕ, zero, suc, ◌+◌, ◌-◌, ◌*◌, ◌/◌, ◌%◌, ◌^◌, ◌<◌, ◌≤◌, min, max, ◌⊎◌, sym, refl, ap, ◌∙◌, subst, inl, inr, ⊎_elim, pow-suc, arith}
+use Rattle.std.proofs.Common.{◌≡◌, ℕ, zero, suc, ◌+◌, ◌-◌, ◌/◌, ◌%◌, ◌^◌, ◌<◌, min, max, ◌⊎◌, sym, refl, ap, ◌∙◌, subst, inl, inr, ⊎_elim, pow-suc, arith}
 use lib.Bits.{bit_and, bit_or, or_step, and_step, and_self, and_le_r}
 use lib.Count.{count_trailing_zeros, under, ones, ones_step}
-use Rattle.std.proofs.lemmas.Bool.{cases_eq, cases_lt}
+use Rattle.std.proofs.lemmas.Bool.{cases_eq}
 use Rattle.timers.specs.Bitmaps.{bit}
 
 pub bit_lt : (w k : ℕ) → bit w k < 2

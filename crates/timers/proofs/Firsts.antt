@@ -1,9 +1,9 @@
 -- What a word and the deadlines mean after set and stop, and the step of a search for the first.
-use Rattle.std.proofs.Common.{◌≡◌, ℕ, zero, suc, ◌+◌, ◌-◌, ◌*◌, ◌/◌, ◌%◌, ◌^◌, ◌<◌, ◌≤◌, min, max, Bool, true, false, cond, ◌&&◌, eqb, ltb, ◌⊎◌, List, length, get_or, set, Some, None, Option, sym, refl, ap, ◌∙◌, subst, inl, inr, ⊎_elim, arith}
+use Rattle.std.proofs.Common.{◌≡◌, ℕ, ◌-◌, ◌*◌, ◌%◌, ◌^◌, ◌<◌, ◌≤◌, Bool, true, false, cond, ◌&&◌, eqb, ltb, ◌⊎◌, List, length, get_or, set, Some, None, sym, refl, ap, ◌∙◌, subst, inl, inr, ⊎_elim, arith}
 use lib.Bits.{bit_and, bit_or}
 use lib.Count.{count_trailing_zeros}
 use Rattle.std.specs.Map.{update}
-use Rattle.std.proofs.lemmas.Bool.{cases_eq, cases_lt, lt-ltb, le-ltb, ltb-true, eq-eqb, ne_eqb, eqb-true, cases_Bool, and_parts}
+use Rattle.std.proofs.lemmas.Bool.{cases_eq, cases_lt, lt-ltb, le-ltb, ltb-true, eq-eqb, ne_eqb, eqb-true, and_parts}
 use Rattle.std.proofs.lemmas.List.{get_or-set_same, get_or-set_other}
 use Rattle.std.proofs.lemmas.Nat.{pow_below, one_shl}
 use Rattle.timers.specs.Order.{NoLater, First}
@@ -52,7 +52,7 @@ set_at w dl key at l n k =
     subst P (sym e) (meant_on (bit_or w (2 ^ key)) (set dl key at) key l b ∙ ap Some (get_or-set_same dl key at 0 m) ∙ rw (eq-eqb key key refl)))
     (λ (e : k ≡ key → ⊥).
     let b : bit (bit_or w (2 ^ key)) k ≡ bit w k = omega (arith, bit_or_lem w (2 ^ key) k, bit_pow_other key k e) in
-    meant_same (bit_or w (2 ^ key)) w (set dl key at) dl k (λ _. b) (get_or-set_other dl key k at 0 e) ∙ rw (ne_eqb k key e))
+    meant_same (bit_or w (2 ^ key)) w (set dl key at) dl k (λ _. b) (get_or-set_other dl key k at 0 e) ∙ rw (ne_eqb key k (λ x. e (sym x))))
     (cases_eq k key)
 
 stop_at : (w : ℕ) (dl : List ℕ) (key : ℕ) → key < 64 → (k : ℕ) → bitmap_meant (bit_and w (2 ^ 64 - 1 - 2 ^ key)) dl k ≡ update eqb (bitmap_meant w dl) key None k
@@ -65,7 +65,7 @@ stop_at w dl key l k =
     let P : ℕ → Type 0 = λ j. bitmap_meant v dl j ≡ update eqb (bitmap_meant w dl) key None j in
     subst P (sym e) (meant_off v dl key b ∙ rw (eq-eqb key key refl)))
     (λ (e : k ≡ key → ⊥).
-    meant_same v w dl dl k (λ (m : k < 64). omega (arith, bit_and_lem w (2 ^ 64 - 1 - 2 ^ key) k, bit_not 64 (2 ^ key) k p m, bit_pow_other key k e, bit_lt w k)) refl ∙ rw (ne_eqb k key e))
+    meant_same v w dl dl k (λ (m : k < 64). omega (arith, bit_and_lem w (2 ^ 64 - 1 - 2 ^ key) k, bit_not 64 (2 ^ key) k p m, bit_pow_other key k e, bit_lt w k)) refl ∙ rw (ne_eqb key k (λ x. e (sym x))))
     (cases_eq k key)
 
 -- as functions, with the shift as the code has it

@@ -1,5 +1,5 @@
 -- A word of running keys, and a deadline for each.
-use Rattle.std.specs.Prelude.{ℕ, zero, suc, ◌/◌, ◌%◌, Bool, cond, ◌&&◌, List, Some, None, Option, ◌==◌, nat_lt, slice_index}
+use Rattle.std.specs.Prelude.{ℕ, zero, suc, ◌/◌, ◌%◌, cond, ◌&&◌, List, Some, None, Option, ◌==◌, nat_lt, slice_index}
 
 -- the digit k of a word
 unfoldable pub bit : ℕ → ℕ → ℕ

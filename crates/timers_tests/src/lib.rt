@@ -1,4 +1,6 @@
 // Tests of the two sets of timers, against a plain search and against each other.
+#![tactic(auto)]
+
 ghost use Rattle.std.specs.Prelude.{◌≡◌, ◌+◌, ◌*◌, ◌%◌, ◌^◌};
 
 #[cfg(test)]

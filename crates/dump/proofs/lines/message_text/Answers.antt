@@ -4,7 +4,7 @@ use Rattle.dump.proofs.lines.message_text.Goals as goal
 
 pub returns : goal.returns
 returns c =
-    let digits = c.in-ok-digits.ensures ∙ ap hex_text c.write-row.ensures.row in
-    let words = c.in-ok-words.ensures in
-    let text = c.in-ok-text.ensures.ok in
+    let digits = c.in_ok-digits.ensures ∙ ap hex_text c.write-row.ensures.row in
+    let words = c.in_ok-words.ensures in
+    let text = c.in_ok-text.ensures.ok in
     cc

@@ -7,7 +7,7 @@ pub returns : goal.returns
 unfolding runs first_below
 returns c =
     record {
-      time-and-legs = refl;
-      takes-in-order = refl;
-      one-timer-at-a-call = refl;
+      time_and_legs = refl;
+      takes_in_order = refl;
+      one_timer_at_a_call = refl;
     }

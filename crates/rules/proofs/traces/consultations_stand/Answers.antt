@@ -7,12 +7,12 @@ pub returns : goal.returns
 unfolding runs first_below
 returns c =
     record {
-      consult-sends = (refl, refl, refl, refl);
-      consult-identified = (refl, refl, refl, refl, refl);
-      consult-fails = (refl, refl, refl, refl);
-      consult-done = (refl, refl, refl);
-      consult-unanswered = (refl, refl, refl);
-      primary-lost-consulting = (refl, refl, refl);
-      primary-lost-initiating = (refl, refl);
-      secondary-lost = (refl, refl, refl);
+      consult_sends = (refl, refl, refl, refl);
+      consult_identified = (refl, refl, refl, refl, refl);
+      consult_fails = (refl, refl, refl, refl);
+      consult_done = (refl, refl, refl);
+      consult_unanswered = (refl, refl, refl);
+      primary_lost_consulting = (refl, refl, refl);
+      primary_lost_initiating = (refl, refl);
+      secondary_lost = (refl, refl, refl);
     }

@@ -7,9 +7,9 @@ pub returns : goal.returns
 unfolding runs first_below
 returns c =
     record {
-      hold-and-retrieve = (refl, refl, refl, refl);
-      retrieve-lapses = (refl, refl);
-      hold-glare = (refl, refl);
-      held_here_lem = (refl, refl, refl);
-      hold-near = (refl, refl);
+      hold_and_retrieve = (refl, refl, refl, refl);
+      retrieve_lapses = (refl, refl);
+      hold_glare = (refl, refl);
+      held_here = (refl, refl, refl);
+      hold_near = (refl, refl);
     }

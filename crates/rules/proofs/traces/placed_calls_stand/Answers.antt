@@ -7,12 +7,12 @@ pub returns : goal.returns
 unfolding runs first_below
 returns c =
     record {
-      asked-on-3 = (refl, refl);
+      asked_on_3 = (refl, refl);
       asked_twice = (refl, refl);
-      asked-declined = (refl, refl);
-      placed-on-4 = (refl, refl, refl, refl);
-      placed-done = (refl, refl, refl, refl, refl);
-      placed-lapses = (refl, refl, refl, refl);
-      placed-fails = (refl, refl);
-      primary-lost-placing = (refl, refl);
+      asked_declined = (refl, refl);
+      placed_on_4 = (refl, refl, refl, refl);
+      placed_done = (refl, refl, refl, refl, refl);
+      placed_lapses = (refl, refl, refl, refl);
+      placed_fails = (refl, refl);
+      primary_lost_placing = (refl, refl);
     }

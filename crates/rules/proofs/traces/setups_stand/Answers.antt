@@ -7,10 +7,10 @@ pub returns : goal.returns
 unfolding runs first_below
 returns c =
     record {
-      identity-given = (refl, refl, refl, refl);
-      setup-met = (refl, refl, refl, refl);
-      setup-fails = (refl, refl, refl);
-      setup-needs-two = (refl, refl);
-      setup-lapses = (refl, refl, refl, refl);
-      setup-rings = (refl, refl, refl, refl);
+      identity_given = (refl, refl, refl, refl);
+      setup_met = (refl, refl, refl, refl);
+      setup_fails = (refl, refl, refl);
+      setup_needs_two = (refl, refl);
+      setup_lapses = (refl, refl, refl, refl);
+      setup_rings = (refl, refl, refl, refl);
     }

@@ -7,9 +7,9 @@ pub returns : goal.returns
 unfolding runs first_below
 returns c =
     record {
-      transfer-sends = (refl, refl, refl, refl);
-      transfer-lapses = (refl, refl, refl);
-      transfer-done = (refl, refl, refl);
-      release-matches = refl;
+      transfer_sends = (refl, refl, refl, refl);
+      transfer_lapses = (refl, refl, refl);
+      transfer_done = (refl, refl, refl);
+      release_matches = refl;
       release_other = (refl, refl);
     }

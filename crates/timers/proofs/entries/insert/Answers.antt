@@ -1,4 +1,4 @@
-use Rattle.std.proofs.Common.{◌≡◌, ◌+◌, ◌<◌, get_or, set, sym, refl, ap, ◌∙◌, arith, length-set, ltb-true, lt-ltb}
+use Rattle.std.proofs.Common.{◌≡◌, ◌+◌, ◌<◌, get_or, ◌∙◌, arith, length-set, ltb-true, lt-ltb}
 use Rattle.timers.proofs.Swapping.{exch_first}
 use Rattle.timers.proofs.Heaping.{meant_set, comes_in, loose_in}
 use Rattle.timers.proofs.entries.insert.Goals as goal

@@ -1,4 +1,4 @@
-use Rattle.std.proofs.Common.{◌≡◌, ◌-◌, ◌/◌, ltb, get_or, sym, refl, ap, ◌∙◌, arith, ltb-true}
+use Rattle.std.proofs.Common.{ltb, get_or, sym, ap, ◌∙◌, arith, ltb-true}
 use Rattle.timers.proofs.Swapping.{exch_kept}
 use Rattle.timers.proofs.Sifting.{sinking_swap}
 use Rattle.timers.proofs.sift.sift_down.Goals as goal
@@ -8,8 +8,8 @@ loop-at-preserved c =
     let i = c.loop-at.invariant in
     let s = c.swap.ensures in
     let at = c.loop-at.at in
-    let ch = c.least-child-child.result in
-    let e = c.least-child-child.ensures in
+    let ch = c.least_child-child.result in
+    let e = c.least_child-child.ensures in
     let n = c.args.count in (
       omega arith,
       s.linked,

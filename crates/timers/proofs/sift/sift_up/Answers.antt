@@ -1,4 +1,4 @@
-use Rattle.std.proofs.Common.{◌≡◌, ◌-◌, ◌/◌, ltb, get_or, sym, refl, ap, ◌∙◌, arith, ltb-true}
+use Rattle.std.proofs.Common.{◌-◌, ◌/◌, ltb, get_or, sym, refl, ap, ◌∙◌, arith, ltb-true}
 use Rattle.timers.proofs.Swapping.{exch_kept}
 use Rattle.timers.proofs.Sifting.{rising_swap}
 use Rattle.timers.proofs.sift.sift_up.Goals as goal

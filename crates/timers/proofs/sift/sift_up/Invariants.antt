@@ -1,4 +1,4 @@
-use Rattle.std.proofs.Common.{◌≡◌, ℕ, ◌<◌, ltb, length, get_or}
+use Rattle.std.proofs.Common.{◌≡◌, ℕ, ◌<◌, ltb, get_or}
 use Rattle.timers.specs.Heaps.{ranked, Linked, Rising}
 use Rattle.timers.proofs.sift.sift_up.Given as goal
 

@@ -6,5 +6,5 @@ pub returns : goal.returns
 returns c =
     record {
       verdict = c.judge.ensures;
-      accepted = accepted_made c.args.bytes.now c.judge.result (λ i. omega (arith, c.type-inv.bytes i)) c.judge.ensures;
+      accepted = accepted_made c.args.bytes.now c.judge.result (λ i. omega (arith, c.type_inv.bytes i)) c.judge.ensures;
     }

@@ -1,4 +1,4 @@
-use Rattle.std.proofs.Common.{◌++◌, length, sym, refl, ap, ◌∙◌, arith}
+use Rattle.std.proofs.Common.{◌++◌, length, sym, ap, ◌∙◌, arith}
 use Rattle.std.proofs.lemmas.List.{length-append}
 use Rattle.std.proofs.lemmas.Bool.{eqb-true, eqb-false}
 use Rattle.queue.specs.Spills.{held}
@@ -32,13 +32,13 @@ returns-in-Err g c =
       settled = λ _ some. ap (λ b. length (g.Q.Queue.waiting b)) same ∙ e.cases.0 ∙ ap g.Q.Queue.capacity (sym same);
     }
 
-pub returns-then-is-full : goal.returns-then-is-full
-returns-then-is-full g c =
+pub returns-then-is_full : goal.returns-then-is_full
+returns-then-is_full g c =
     let ws = g.Q.Queue.waiting c.args.self.now.below in
     let ss = held c.args.self.now.own in
     let long = length-append ws ss in
     let b = c.refill.ensures.bounds (omega arith) in
-    let eight = eqb-true (length (held c.refill.new.self.own)) 8 (sym c.is-full.ensures.all ∙ c.if-is-full.true) in
+    let eight = eqb-true (length (held c.refill.new.self.own)) 8 (sym c.is_full.ensures.all ∙ c.if-is_full.true) in
     by_when c.refill.result _ _ c.refill.ensures.cases
     (λ moved. absurd (omega (arith, ap length moved.1.2)))
     (λ stayed.
@@ -60,7 +60,7 @@ returns g c =
     let ts = held c.refill.new.self.own in
     let long = length-append ws ss in
     let b = c.refill.ensures.bounds (omega arith) in
-    let fewer = eqb-false (length ts) 8 (sym c.is-full.ensures.all ∙ c.if-is-full.false) in
+    let fewer = eqb-false (length ts) 8 (sym c.is_full.ensures.all ∙ c.if-is_full.false) in
     by_when c.refill.result _ _ c.refill.ensures.cases
     (λ moved.
     record {

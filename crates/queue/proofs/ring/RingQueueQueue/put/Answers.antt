@@ -18,8 +18,8 @@ returns c =
       kept = omega (arith, simp length-set at (ap length c.store.ensures.all));
       cases = (
         omega arith,
-        ap (λ k. ringed zs c.start-of-head.result (k + 1)) c.store.ensures.count
-            ∙ put_at xs zs _ _ _ _ _ _ (omega arith) c.start-of-head.ensures c.if-self-size.false c.next-of-place.ensures c.store.ensures.all,
+        ap (λ k. ringed zs c.start_of-head.result (k + 1)) c.store.ensures.count
+            ∙ put_at xs zs _ _ _ _ _ _ (omega arith) c.start_of-head.ensures c.if-self-size.false c.next_of-place.ensures c.store.ensures.all,
       );
-      records = (c.next-of-place.result, omega (arith, c.next-of-place.ensures.0), c.store.ensures.all);
+      records = (c.next_of-place.result, omega (arith, c.next_of-place.ensures.0), c.store.ensures.all);
     }

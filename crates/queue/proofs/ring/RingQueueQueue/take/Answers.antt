@@ -10,6 +10,6 @@ returns c =
     record {
       bounds = (omega arith, omega arith);
       kept = refl;
-      cases = take_at xs c.size-size.result _ _ _ _ _ (omega arith) c.start-of-head.ensures (omega arith) c.record-message.ensures;
+      cases = take_at xs c.size-size.result _ _ _ _ _ (omega arith) c.start_of-head.ensures (omega arith) c.record-message.ensures;
       records = refl;
     }

@@ -1,4 +1,4 @@
-use Rattle.std.proofs.Common.{ℕ, ◌-◌, ◌^◌, ◌<◌, sym, refl, ap, ◌∙◌, subst, arith}
+use Rattle.std.proofs.Common.{ℕ, ◌-◌, ◌<◌, sym, refl, ap, ◌∙◌, subst, arith}
 use lib.Bits.{bit_and, and_le_l}
 use lib.Count.{count_trailing_zeros, ones, ones-le}
 use Rattle.timers.specs.Bitmaps.{bitmap_meant}
@@ -23,11 +23,11 @@ loop-rest-init c =
       omega (arith, cleared_ones 64 w (omega arith) (omega arith)),
     )
 
-pub overflow_add_turns : goal.overflow_add_turns
-overflow_add_turns c = omega (arith, c.loop-rest.invariant.2, ones-le 64 c.args.self.now.running (omega arith))
+pub overflow_add-turns : goal.overflow_add-turns
+overflow_add-turns c = omega (arith, c.loop-rest.invariant.2, ones-le 64 c.args.self.now.running (omega arith))
 
-pub bounds_self_next : goal.bounds_self_next
-bounds_self_next c = (lowest 64 c.loop-rest.rest (omega arith) c.loop-rest.invariant.0).0
+pub bounds-self-next : goal.bounds-self-next
+bounds-self-next c = (lowest 64 c.loop-rest.rest (omega arith) c.loop-rest.invariant.0).0
 
 pub loop-rest-preserved : goal.loop-rest-preserved
 loop-rest-preserved c =
