@@ -1,6 +1,6 @@
 -- Whatever is accepted is lawful, and is the row of what it is accepted as.
 use Rattle.std.proofs.Common.{◌≡◌, ℕ, zero, suc, ◌+◌, ◌*◌, ◌/◌, ◌%◌, ◌<◌, Bool, true, false, not, eqb, List, [], ◌∷◌, length, get_or, drop, IfOk, Some, None, Ok, Err, Option, Result, sym, refl, ap, ◌∙◌, subst, arith, drop-cons}
-use Rattle.std.specs.List.{AllByRecursion as All}
+use Rattle.std.specs.List.{AllByRecursion}
 use Rattle.std.proofs.lemmas.Bool.Decides.{nat_tests}
 use Rattle.std.proofs.lemmas.Bool.{eqb-true, not-false}
 use Rattle.std.proofs.ByRecursion.{All-get_or, All-from_get_or}
@@ -23,7 +23,7 @@ pub numbered_has : {A : Type 0} (number : A → ℕ) (n : ℕ) (xs : List A) (x 
 numbered_has number n [] x e = let z : ◌≡◌ {A = ℕ} 0 1 = cc in omega arith
 numbered_has number n (y ∷ ys) x e = let ih = numbered_has number n ys x in grind (arith, nat_tests, ih)
 
-none_true : (i : ℕ) (ws : List Bool) → first i ws ≡ None → All (λ w. w ≡ false) ws
+none_true : (i : ℕ) (ws : List Bool) → first i ws ≡ None → AllByRecursion (λ w. w ≡ false) ws
 none_true i [] e = tt
 none_true i (true ∷ ws) e = let z : ◌≡◌ {A = ℕ} 0 1 = cc in absurd (omega arith)
 none_true i (false ∷ ws) e = (refl, none_true (suc i) ws e)
@@ -44,7 +44,7 @@ record Accepted (bytes : List ℕ) (m : Message) : Type 0 where
   pub carrier : carrier_number m.carrier ≡ byte bytes 0
   pub kind : kind_number m.kind ≡ byte bytes 1
   pub said : m ≡ meant m.carrier m.kind bytes
-  pub right : All (λ w. w ≡ false) (wrongs m bytes)
+  pub right : AllByRecursion (λ w. w ≡ false) (wrongs m bytes)
 
 no_fault : {X : Type 0} (i : ℕ) (m : Message) → Ok m ≡ fault i → X
 no_fault i m e = let z : ◌≡◌ {A = ℕ} 0 1 = cc in absurd (omega arith)

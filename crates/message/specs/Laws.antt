@@ -1,11 +1,11 @@
 -- What holds of the format as a whole.
 use Rattle.std.specs.Prelude.{◌≡◌, ℕ, ◌+◌, ◌<◌, cond, ◌||◌, List, Ok, ◌==◌}
-use Rattle.std.specs.List.{AllByRecursion as All}
+use Rattle.std.specs.List.{AllByRecursion}
 use Rattle.message.specs.declared.record.Message.{Message}
 use Rattle.message.specs.Format.{row_of, byte, fault, verdict, Lawful}
 
 abbrev pub Bytes : List ℕ → Type 0
-Bytes = All (λ b. b < 256)
+Bytes = AllByRecursion (λ b. b < 256)
 
 -- what is written reads back: the row of a lawful message is taken for that message
 abbrev pub ReadsBack : Type 0

@@ -4,7 +4,7 @@ use lib.ListN.{get_or-replicate}
 use Rattle.std.proofs.ByRecursion.{All-append}
 use Rattle.std.proofs.lemmas.Bool.{false≢true, and_parts, leb-true, ltb-false, ltb-true}
 use Rattle.std.proofs.lemmas.Bool.Decides.{nat_tests}
-use Rattle.std.specs.List.{AllByRecursion as All}
+use Rattle.std.specs.List.{AllByRecursion}
 use Rattle.message.specs.declared.record.Message.{Message}
 use Rattle.message.specs.Format.{Lawful}
 use Rattle.leg.specs.declared.place.Place.{Place}
@@ -41,7 +41,7 @@ use Rattle.rules.proofs.Calls.{open_keeps, clear_keeps, transfer_keeps, consult_
 
 -- ---- after a plan
 
-sent_lawful : (a b : Option Message) → LawfulIf a → LawfulIf b → All Lawful (listed (up_to_two a b))
+sent_lawful : (a b : Option Message) → LawfulIf a → LawfulIf b → AllByRecursion Lawful (listed (up_to_two a b))
 sent_lawful None None A B = tt
 sent_lawful None (Some m) A B = (B, tt)
 sent_lawful (Some m) None A B = (A, tt)
@@ -113,7 +113,7 @@ module _ (s : State) (C : Consistent s) where
   take_good : (w : List Message) → s.waiting ≡ w → Good (elim w [ [] ↦ (answer.Done note.QueueEmpty few.Zero few.Zero, s) | m ∷ ms ↦ (answer.Taken m, with_waiting s ms) ])
   take_good [] e = (tt, C)
   take_good (m ∷ ms) e =
-      let L : All Lawful (m ∷ ms) = subst (All Lawful) e C.lawful in
+      let L : AllByRecursion Lawful (m ∷ ms) = subst (AllByRecursion Lawful) e C.lawful in
       let n : length (m ∷ ms) ≤ s.capacity = subst (λ (w : List Message). length w ≤ s.capacity) e C.fits in
       (L.0, record { size = C.size; sound = C.sound; partners = C.partners; next = C.next; time = C.time; lawful = L.1; fits = omega (arith, n) })
 
@@ -177,7 +177,7 @@ fresh_consistent settings capacity =
       fits = omega arith;
     }
 
-pub life_good : (s : State) (cs : List Call) → Consistent s → All LawfulAnswer (runs s cs).0 × Consistent (runs s cs).1
+pub life_good : (s : State) (cs : List Call) → Consistent s → AllByRecursion LawfulAnswer (runs s cs).0 × Consistent (runs s cs).1
 unfolding runs
 life_good s [] C = (tt, C)
 life_good s (c ∷ cs) C =

@@ -1,6 +1,6 @@
 -- What holds of every state that a board comes to.
 use Rattle.std.specs.Prelude.{◌≡◌, ◌^◌, ◌≤◌, ◌≢◌, length, Some, Option}
-use Rattle.std.specs.List.{AllByRecursion as All}
+use Rattle.std.specs.List.{AllByRecursion}
 use Rattle.message.specs.Format.{Lawful}
 use Rattle.leg.specs.declared.place.Place.{Place}
 use Rattle.rules.specs.Sound.{Sound, Tie, tie_of, tied_to, returned, NextInRange}
@@ -18,5 +18,5 @@ pub record Consistent (s : State) : Type 0 where
   pub next : NextInRange s.next
   pub time : s.time ≤ 2 ^ 40
   -- all that waits is lawful, and no more waits than there is capacity for
-  pub lawful : All Lawful s.waiting
+  pub lawful : AllByRecursion Lawful s.waiting
   pub fits : length s.waiting ≤ s.capacity

@@ -1,6 +1,6 @@
 -- What holds of every list of calls on a fresh board.
 use Rattle.std.specs.Prelude.{◌≡◌, ℕ, ◌<◌, ◌≤◌, List, ◌++◌, Some, None, Option}
-use Rattle.std.specs.List.{AllByRecursion as All}
+use Rattle.std.specs.List.{AllByRecursion}
 use Rattle.message.specs.Format.{Lawful}
 use Rattle.leg.specs.declared.codes.Refusal.{Refusal}
 use Rattle.timers.specs.Order.{First}
@@ -21,10 +21,10 @@ AlwaysConsistent = (settings : Settings) (capacity : ℕ) (calls : List Call) �
 
 -- what an answer names as sent is lawful, and so is what was taken: its row reads back as the same message
 abbrev pub LawfulAnswer : Answer → Type 0
-LawfulAnswer a = elim a [ answer.Refused _ ↦ Unit {0} | answer.Done _ sent _ ↦ All Lawful (listed sent) | answer.Taken m ↦ Lawful m | answer.Shown _ ↦ Unit {0} ]
+LawfulAnswer a = elim a [ answer.Refused _ ↦ Unit {0} | answer.Done _ sent _ ↦ AllByRecursion Lawful (listed sent) | answer.Taken m ↦ Lawful m | answer.Shown _ ↦ Unit {0} ]
 
 abbrev pub AlwaysLawful : Type 0
-AlwaysLawful = (settings : Settings) (capacity : ℕ) (calls : List Call) → All LawfulAnswer (runs (fresh settings capacity) calls).0
+AlwaysLawful = (settings : Settings) (capacity : ℕ) (calls : List Call) → AllByRecursion LawfulAnswer (runs (fresh settings capacity) calls).0
 
 -- an answer has places for two ends, and that suffices: what is carried out names all ends of both legs
 abbrev pub EndsAllNamed : Type 0
