@@ -115,7 +115,8 @@ fn start_of(head: usize, size: usize) -> usize
 
 // The place after the last that waits.
 fn next_of(head: usize, count: usize, size: usize) -> usize
-    requires { (head < size) × (count < size) }
+    requires head { head < size }
+    requires count { count < size }
     ensures { Next head count size result }
 {
     let left = size - head;

@@ -14,7 +14,9 @@ pub fn insert(
     deadline: u64,
     count: usize,
 )
-    requires { (Heaped keys.old places.old deadlines.old count) × ((key < 64) × (count ≤ slice_index places.old key)) }
+    requires heaped { Heaped keys.old places.old deadlines.old count }
+    requires key { key < 64 }
+    requires stopped { count ≤ slice_index places.old key }
     ensures heaped { Heaped keys.new places.new deadlines.new (count + 1) }
     ensures meant { heap_meant places.new deadlines.new (count + 1) ≡ update nat_eq (heap_meant places.old deadlines.old count) key (Some deadline) }
 {
@@ -33,7 +35,9 @@ pub fn change(
     deadline: u64,
     count: usize,
 )
-    requires { (Heaped keys.old places.old deadlines.old count) × ((key < 64) × (slice_index places.old key < count)) }
+    requires heaped { Heaped keys.old places.old deadlines.old count }
+    requires key { key < 64 }
+    requires running { slice_index places.old key < count }
     ensures heaped { Heaped keys.new places.new deadlines.new count }
     ensures meant { heap_meant places.new deadlines.new count ≡ update nat_eq (heap_meant places.old deadlines.old count) key (Some deadline) }
 {
@@ -50,7 +54,9 @@ pub fn remove(
     key: u8,
     count: usize,
 )
-    requires { (Heaped keys.old places.old deadlines.now count) × ((key < 64) × (slice_index places.old key < count)) }
+    requires heaped { Heaped keys.old places.old deadlines.now count }
+    requires key { key < 64 }
+    requires running { slice_index places.old key < count }
     ensures heaped { Heaped keys.new places.new deadlines.now (count - 1) }
     ensures meant { heap_meant places.new deadlines.now (count - 1) ≡ update nat_eq (heap_meant places.old deadlines.now count) key None }
 {

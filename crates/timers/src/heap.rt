@@ -2,7 +2,7 @@
 ghost use Rattle.std.specs.Prelude.{◌≡◌, ℕ, ◌+◌, ◌-◌, ◌/◌, ◌^◌, ◌<◌, ◌≤◌, length, Some, None, Ok, Err, slice_index};
 ghost use Rattle.std.specs.Map.{update};
 ghost use Rattle.timers.specs.Heaps.{ranked, Ordered, heap_meant};
-ghost use Rattle.std.proofs.Common.{rules, arith};
+ghost use Rattle.std.proofs.Common.{rules};
 
 use crate::entries::{change, insert, remove};
 use crate::meaning::{Due, LAST_KEY, NoSuchKey, Timers};
@@ -43,7 +43,7 @@ impl HeapTimers {
 impl Timers for HeapTimers {
     ghost deadlines = { λ s. heap_meant s.places s.deadlines s.count };
 
-    ghost range = { first_of (Prim.search rules, Prim.grind (arith, Self.row.coded.inj)) };
+    ghost range = { Prim.search rules };
 
     fn set(&mut self, key: u8, deadline: u64) -> Result<(), NoSuchKey> {
         if key > LAST_KEY {

@@ -4,7 +4,9 @@ ghost use Rattle.timers.specs.Heaps.{rank, ranked, Ordered, Linked, Rising, Sink
 
 // Exchanges the keys of two places.
 pub fn swap(keys: &mut [u8; 64], places: &mut [u8; 64], i: usize, j: usize)
-    requires { (Linked keys.old places.old) × ((i < 64) × (j < 64)) }
+    requires linked { Linked keys.old places.old }
+    requires i { i < 64 }
+    requires j { j < 64 }
     ensures linked { Linked keys.new places.new }
     ensures moved { (x : ℕ) → slice_index keys.new x ≡ slice_index keys.old (exch i j x) }
     ensures placed { (k : ℕ) → k < 64 → slice_index places.new k ≡ exch i j (slice_index places.old k) }
@@ -19,7 +21,8 @@ pub fn swap(keys: &mut [u8; 64], places: &mut [u8; 64], i: usize, j: usize)
 
 // Whether key a comes before key b: by deadline, then key.
 fn earlier(deadlines: &[u64; 64], a: u8, b: u8) -> bool
-    requires { (a < 64) × (b < 64) }
+    requires a { a < 64 }
+    requires b { b < 64 }
     ensures { result ≡ nat_lt (rank deadlines.now a) (rank deadlines.now b) }
 {
     let x = deadlines[a as usize];
@@ -35,7 +38,10 @@ fn sift_up(
     from: usize,
     count: usize,
 )
-    requires { (Linked keys.old places.old) × ((count ≤ 64) × ((from < count) × (Rising (ranked keys.old deadlines.now) count from))) }
+    requires linked { Linked keys.old places.old }
+    requires count { count ≤ 64 }
+    requires from { from < count }
+    requires rising { Rising (ranked keys.old deadlines.now) count from }
     ensures linked { Linked keys.new places.new }
     ensures order { Ordered (ranked keys.new deadlines.now) count }
     ensures kept { (k : ℕ) → k < 64 → nat_lt (slice_index places.new k) count ≡ nat_lt (slice_index places.old k) count }
@@ -53,7 +59,9 @@ fn sift_up(
 
 // The child of a place that comes first.
 fn least_child(keys: &[u8; 64], deadlines: &[u64; 64], at: usize, count: usize) -> usize
-    requires { (((i : ℕ) → i < 64 → slice_index keys.now i < 64)) × ((count ≤ 64) × (2 * at + 1 < count)) }
+    requires low { (i : ℕ) → i < 64 → slice_index keys.now i < 64 }
+    requires count { count ≤ 64 }
+    requires left { 2 * at + 1 < count }
     ensures child { (at ≡ (result - 1) / 2) × (0 < result) × (result < count) }
     ensures least { (j : ℕ) → 0 < j → j < count → (j - 1) / 2 ≡ at → ranked keys.now deadlines.now result ≤ ranked keys.now deadlines.now j }
 {
@@ -76,7 +84,10 @@ fn sift_down(
     from: usize,
     count: usize,
 )
-    requires { (Linked keys.old places.old) × ((count ≤ 64) × ((from < count) × (Sinking (ranked keys.old deadlines.now) count from))) }
+    requires linked { Linked keys.old places.old }
+    requires count { count ≤ 64 }
+    requires from { from < count }
+    requires sinking { Sinking (ranked keys.old deadlines.now) count from }
     ensures linked { Linked keys.new places.new }
     ensures order { Ordered (ranked keys.new deadlines.now) count }
     ensures kept { (k : ℕ) → k < 64 → nat_lt (slice_index places.new k) count ≡ nat_lt (slice_index places.old k) count }
@@ -100,7 +111,10 @@ pub fn settle(
     from: usize,
     count: usize,
 )
-    requires { (Linked keys.old places.old) × ((count ≤ 64) × ((from < count) × (Loose (ranked keys.old deadlines.now) count from))) }
+    requires linked { Linked keys.old places.old }
+    requires count { count ≤ 64 }
+    requires from { from < count }
+    requires loose { Loose (ranked keys.old deadlines.now) count from }
     ensures linked { Linked keys.new places.new }
     ensures order { Ordered (ranked keys.new deadlines.now) count }
     ensures kept { (k : ℕ) → k < 64 → nat_lt (slice_index places.new k) count ≡ nat_lt (slice_index places.old k) count }

@@ -4,7 +4,7 @@ use Rattle.timers.proofs.entries.change.Goals as goal
 
 pub returns : goal.returns
 returns c =
-    let h = c.requires.0 in
+    let h = c.requires.heaped in
     let key = c.args.key in
     let n = c.args.count in
     let P = c.args.places.now in

@@ -5,13 +5,18 @@ use Rattle.timers.proofs.entries.insert.Goals as goal
 
 pub settle-requires : goal.settle-requires
 settle-requires c =
-    let h = c.requires.0 in
+    let h = c.requires.heaped in
     let fits : get_or c.args.places.now c.args.key 0 < 64 = h.linked.inside c.args.key (omega arith) in
-    (c.swap.ensures.linked, (omega arith, (omega arith, loose_in c.args.keys.now c.args.places.now c.args.deadlines.now c.swap.new.keys c.args.count c.args.key c.args.deadline h (omega arith) c.swap.ensures.moved)))
+    record {
+      linked = c.swap.ensures.linked;
+      count = omega arith;
+      from = omega arith;
+      loose = loose_in c.args.keys.now c.args.places.now c.args.deadlines.now c.swap.new.keys c.args.count c.args.key c.args.deadline h (omega arith) c.swap.ensures.moved;
+    }
 
 pub returns : goal.returns
 returns c =
-    let h = c.requires.0 in
+    let h = c.requires.heaped in
     let key = c.args.key in
     let n = c.args.count in
     let P = c.args.places.now in

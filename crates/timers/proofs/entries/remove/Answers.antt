@@ -6,12 +6,17 @@ use Rattle.timers.proofs.entries.remove.Goals as goal
 
 pub settle-requires : goal.settle-requires
 settle-requires c =
-    let h = c.requires.0 in
-    (c.swap.ensures.linked, (omega arith, (omega arith, loose_out c.args.keys.now c.args.deadlines.now c.swap.new.keys c.args.count (get_or c.args.places.now c.args.key 0) h.order c.swap.ensures.moved)))
+    let h = c.requires.heaped in
+    record {
+      linked = c.swap.ensures.linked;
+      count = omega arith;
+      from = omega arith;
+      loose = loose_out c.args.keys.now c.args.deadlines.now c.swap.new.keys c.args.count (get_or c.args.places.now c.args.key 0) h.order c.swap.ensures.moved;
+    }
 
 pub returns-then-from-last : goal.returns-then-from-last
 returns-then-from-last c =
-    let h = c.requires.0 in
+    let h = c.requires.heaped in
     let key = c.args.key in
     let n = c.args.count in
     let P = c.args.places.now in
@@ -27,7 +32,7 @@ returns-then-from-last c =
 
 pub returns : goal.returns
 returns c =
-    let h = c.requires.0 in
+    let h = c.requires.heaped in
     let key = c.args.key in
     let n = c.args.count in
     let P = c.args.places.now in

@@ -8,6 +8,6 @@ returns c =
     let ps = c.args.places.now in
     let i = c.args.i in
     let j = c.args.j in
-    let moved = keys_after ks ps i j (omega arith) (omega arith) c.requires.0 in
-    let placed = places_after ks ps i j (omega arith) (omega arith) c.requires.0 in
-    record { linked = linked_after ks ps i j (omega arith) (omega arith) c.requires.0 _ _ (simp length-set (omega arith)) (simp length-set (omega arith)) moved placed; moved = moved; placed = placed }
+    let moved = keys_after ks ps i j (omega arith) (omega arith) c.requires.linked in
+    let placed = places_after ks ps i j (omega arith) (omega arith) c.requires.linked in
+    record { linked = linked_after ks ps i j (omega arith) (omega arith) c.requires.linked _ _ (simp length-set (omega arith)) (simp length-set (omega arith)) moved placed; moved = moved; placed = placed }
