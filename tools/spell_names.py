@@ -1,7 +1,10 @@
 #!/usr/bin/env python3
-"""Spells the repository's own antt names in snake case, once: a word of specs/ or proofs/ that was camelCase or
+"""Spells the repository's own antt names in snake case: a word of specs/ or proofs/ that was camelCase or
 kebab-case becomes snake_case, and a lemma that would fall together with its function gets _lem. Types and facts keep
 their capital, and so do the names that Rattle makes for goals.
+
+It ran once, when the repository came over from an older kit (docs/PORT.md), and is kept so that this can be seen again.
+Do not run it on what stands today: it goes by words alone, and would take some names of goals for ours.
 
 usage: python3 tools/spell_names.py           at the top of the repository: rewrites crates/*/{src,specs,proofs} and the pages in place
        python3 tools/spell_names.py --check   prints what would be renamed, and what would stand twice in a file
