@@ -3,3 +3,4 @@ pub mod Places
 pub mod Values
 pub mod Views
 pub mod Reactions
+pub mod Tells

@@ -1,5 +1,5 @@
 -- What a leg's record says.
-use Rattle.std.specs.Prelude.{ℕ, Bool, true, false, ◌&&◌, Some, None, Option}
+use Rattle.std.specs.Prelude.{ℕ, Bool, true, false, ◌&&◌, Some, None, is_none, Option}
 use Rattle.message.specs.declared.codes.Operation.{Operation}
 use Rattle.message.specs.declared.codes.Operation.TheVariants as operation
 use Rattle.leg.specs.declared.place.Place.{Place}
@@ -13,21 +13,21 @@ use Rattle.leg.specs.declared.record.Transfer.{Transfer}
 use Rattle.leg.specs.declared.record.Transfer.TheVariants as transfer
 use Rattle.leg.specs.declared.record.Holder.{Holder}
 use Rattle.leg.specs.declared.record.Holder.TheVariants as holder
-use Rattle.leg.specs.declared.record.Held.{Held}
-use Rattle.leg.specs.declared.record.Held.TheVariants as held
+use Rattle.leg.specs.declared.record.HoldKind.{HoldKind}
+use Rattle.leg.specs.declared.record.HoldKind.TheVariants as hold
 use Rattle.leg.specs.declared.record.Leg.{Leg}
 
 -- a leg that serves no call
 abbrev pub free_leg : Leg
-free_leg = record { phase = phase.Free; peer = 0; transfer = transfer.Idle; holder = holder.Idle; held = held.Idle }
+free_leg = record { phase = phase.Free; peer = 0; transfer = transfer.Idle; holder = holder.Idle; held = None }
 
 -- a leg with this peer, and no transfer or hold
 abbrev pub active_leg : ℕ → Leg
-active_leg q = record { phase = phase.Active; peer = q; transfer = transfer.Idle; holder = holder.Idle; held = held.Idle }
+active_leg q = record { phase = phase.Active; peer = q; transfer = transfer.Idle; holder = holder.Idle; held = None }
 
 -- a leg that calls this peer on behalf of the primary
 abbrev pub calling_leg : ℕ → ℕ → Place → Leg
-calling_leg q n p = record { phase = phase.Calling; peer = q; transfer = transfer.AwaitSetupResponse n p; holder = holder.Idle; held = held.Idle }
+calling_leg q n p = record { phase = phase.Calling; peer = q; transfer = transfer.AwaitSetupResponse n p; holder = holder.Idle; held = None }
 
 abbrev pub in_use : Leg → Bool
 in_use l = elim l.phase [ phase.Free ↦ false | phase.Calling ↦ true | phase.Ringing _ ↦ true | phase.Alerting ↦ true | phase.Active ↦ true ]
@@ -138,13 +138,13 @@ holds_none l = elim l.holder [ holder.Idle ↦ true | holder.NearHolding ↦ fal
 
 -- this end is not held
 abbrev pub is_held_not : Leg → Bool
-is_held_not l = elim l.held [ held.Idle ↦ true | held.Near ↦ false | held.Remote ↦ false ]
+is_held_not l = is_none l.held
 
 abbrev pub is_held_near : Leg → Bool
-is_held_near l = elim l.held [ held.Idle ↦ false | held.Near ↦ true | held.Remote ↦ false ]
+is_held_near l = elim l.held [ None ↦ false | Some k ↦ elim k [ hold.Near ↦ true | hold.Remote ↦ false ] ]
 
 abbrev pub is_held_remote : Leg → Bool
-is_held_remote l = elim l.held [ held.Idle ↦ false | held.Near ↦ false | held.Remote ↦ true ]
+is_held_remote l = elim l.held [ None ↦ false | Some k ↦ elim k [ hold.Near ↦ false | hold.Remote ↦ true ] ]
 
 -- nobody holds
 abbrev pub is_unheld : Leg → Bool
@@ -216,5 +216,5 @@ with_transfer l t = record { phase = l.phase; peer = l.peer; transfer = t; holde
 abbrev pub with_holder : Leg → Holder → Leg
 with_holder l h = record { phase = l.phase; peer = l.peer; transfer = l.transfer; holder = h; held = l.held }
 
-abbrev pub with_held : Leg → Held → Leg
+abbrev pub with_held : Leg → Option HoldKind → Leg
 with_held l h = record { phase = l.phase; peer = l.peer; transfer = l.transfer; holder = l.holder; held = h }

@@ -5,7 +5,7 @@ ghost use Rattle.leg.specs.Codes.{refusal_number, refusal_value, note_number, no
 use message::MessageFault;
 
 // Why a call was turned down. A call that is refused changes nothing.
-#[derive(Clone, Copy)]
+#[derive(Clone, Copy, PartialEq, Eq, Debug)]
 pub enum Refusal {
     // an own number outside 1 to 65,535, or a timer value outside 1 to 3,600
     BadSettings,
@@ -40,7 +40,7 @@ pub enum Refusal {
 }
 
 // What an accepted call has to say beside the messages that it sent.
-#[derive(Clone, Copy)]
+#[derive(Clone, Copy, PartialEq, Eq, Debug)]
 pub enum Note {
     Done,
     // the message fits nothing that the board waits for; nothing changed
@@ -62,7 +62,7 @@ pub enum Note {
 }
 
 // How an open request came to its end.
-#[derive(Clone, Copy)]
+#[derive(Clone, Copy, PartialEq, Eq, Debug)]
 pub enum Cause {
     Result,
     // an error or a reject
@@ -72,17 +72,17 @@ pub enum Cause {
 }
 
 // The end of the request with this number.
-#[derive(Clone, Copy)]
+#[derive(Clone, Copy, PartialEq, Eq, Debug)]
 pub struct Ended {
     pub number: u16,
     pub cause: Cause,
 }
 
-impl Refusal {
-    pub fn number(self) -> u8
-        ensures { result ≡ refusal_number self }
-    {
-        match self {
+impl From<Refusal> for u8 {
+    ghost from_gives = { λ refusal number. number ≡ refusal_number refusal };
+
+    fn from(refusal: Refusal) -> u8 {
+        match refusal {
             Refusal::BadSettings => 1,
             Refusal::BadQueueSize => 2,
             Refusal::NoSuchLeg => 3,
@@ -100,23 +100,25 @@ impl Refusal {
             Refusal::QueueFull => 15,
         }
     }
+}
 
+impl Refusal {
     // The wrong byte of a message, 0 for any other refusal.
     pub fn value(self) -> u16
         ensures { result ≡ refusal_value self }
     {
         match self {
-            Refusal::BadMessage(fault) => fault.byte as u16,
+            Refusal::BadMessage(fault) => u16::from(fault.byte),
             _ => 0,
         }
     }
 }
 
-impl Note {
-    pub fn number(self) -> u8
-        ensures { result ≡ note_number self }
-    {
-        match self {
+impl From<Note> for u8 {
+    ghost from_gives = { λ note number. number ≡ note_number note };
+
+    fn from(note: Note) -> u8 {
+        match note {
             Note::Done => 0,
             Note::Stray => 1,
             Note::NoneDue => 2,
@@ -128,7 +130,9 @@ impl Note {
             Note::SetupLapsed => 8,
         }
     }
+}
 
+impl Note {
     // The address that is asked for, 0 for any other note.
     pub fn value(self) -> u16
         ensures { result ≡ note_value self }
@@ -140,11 +144,11 @@ impl Note {
     }
 }
 
-impl Cause {
-    pub fn number(self) -> u8
-        ensures { result ≡ cause_number self }
-    {
-        match self {
+impl From<Cause> for u8 {
+    ghost from_gives = { λ cause number. number ≡ cause_number cause };
+
+    fn from(cause: Cause) -> u8 {
+        match cause {
             Cause::Result => 1,
             Cause::Fault => 2,
             Cause::Timeout => 3,

@@ -15,7 +15,7 @@ mod views;
 pub use codes::{Cause, Ended, Note, Refusal};
 pub use place::Place;
 pub use reaction::{Named, Reaction, Slot, Tell, Timer, TimerChange, UpToTwo, Word};
-pub use record::{Bond, Held, HoldKind, Holder, Leg, Owed, Phase, Request, Transfer};
+pub use record::{Bond, HoldKind, Holder, Leg, Owed, Phase, Request, Transfer};
 pub use value::TimerValue;
 pub use values::TimerValues;
 pub use views::FREE;

@@ -1,18 +1,23 @@
 // From the number of a leg to its place.
 ghost use Rattle.std.specs.Prelude.{◌≡◌};
+ghost use Rattle.std.specs.Option.{ok_or};
+ghost use Rattle.leg.specs.declared.codes.Refusal.TheVariants.{NoSuchLeg};
 ghost use Rattle.leg.specs.Places.{place_of};
 
+use crate::codes::Refusal;
 use crate::place::Place;
 
-impl Place {
+impl TryFrom<u64> for Place {
+    type Error = Refusal;
+
+    ghost try_from_gives = { λ leg place. place ≡ ok_or (place_of leg) NoSuchLeg };
+
     // The place of leg 0 to 31; there is no other leg.
-    pub fn new(leg: u64) -> Option<Place>
-        ensures { result ≡ place_of leg }
-    {
+    fn try_from(leg: u64) -> Result<Place, Refusal> {
         if leg < 32 {
-            Some(Place { index: leg as u8 })
+            Ok(Place { index: leg as u8 })
         } else {
-            None
+            Err(Refusal::NoSuchLeg)
         }
     }
 }

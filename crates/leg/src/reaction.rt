@@ -5,7 +5,7 @@ use crate::record::Leg;
 use message::Message;
 
 // The six timers, two of a leg at most running at a time.
-#[derive(Clone, Copy)]
+#[derive(Clone, Copy, PartialEq, Eq, Debug)]
 pub enum Timer {
     CtT1,
     CtT2,
@@ -16,14 +16,14 @@ pub enum Timer {
 }
 
 // The two timer keys of a leg.
-#[derive(Clone, Copy)]
+#[derive(Clone, Copy, PartialEq, Eq, Debug)]
 pub enum Slot {
     Transfer,
     Hold,
 }
 
 // What becomes of a running or a stopped timer.
-#[derive(Clone, Copy)]
+#[derive(Clone, Copy, PartialEq, Eq, Debug)]
 pub enum TimerChange {
     Kept,
     Stopped,
@@ -31,7 +31,7 @@ pub enum TimerChange {
 }
 
 // At most two of a kind, in their order.
-#[derive(Clone, Copy)]
+#[derive(Clone, Copy, PartialEq, Eq, Debug)]
 pub enum UpToTwo<T> {
     Zero,
     One(T),
@@ -39,7 +39,7 @@ pub enum UpToTwo<T> {
 }
 
 // What one leg has another leg do.
-#[derive(Clone, Copy)]
+#[derive(Clone, Copy, PartialEq, Eq, Debug)]
 pub enum Word {
     // be the primary of a consultation on the secondary
     Consult { secondary: Place },
@@ -59,14 +59,15 @@ pub enum Word {
     Lost,
 }
 
-#[derive(Clone, Copy)]
-pub enum Tell {
-    Nobody,
-    Leg { to: Place, word: Word },
+// Another leg, and what it is told.
+#[derive(Clone, Copy, PartialEq, Eq, Debug)]
+pub struct Tell {
+    pub to: Place,
+    pub word: Word,
 }
 
 // Which open request a step ends by a cause of its own, of a leg that ends with it.
-#[derive(Clone, Copy)]
+#[derive(Clone, Copy, PartialEq, Eq, Debug)]
 pub enum Named {
     Neither,
     Transfer(Cause),
@@ -74,13 +75,13 @@ pub enum Named {
 }
 
 // The new record, what is sent on this leg, which requests end, what becomes of the two timers, what another leg is told, and what the host is told.
-#[derive(Clone, Copy)]
+#[derive(Clone, Copy, PartialEq, Eq, Debug)]
 pub struct Reaction {
     pub leg: Leg,
     pub sent: Option<Message>,
     pub ends: UpToTwo<Ended>,
     pub transfer_timer: TimerChange,
     pub hold_timer: TimerChange,
-    pub tell: Tell,
+    pub tell: Option<Tell>,
     pub note: Note,
 }

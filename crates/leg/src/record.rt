@@ -3,14 +3,14 @@ use crate::place::Place;
 use message::Operation;
 
 // A confirmed invoke that was sent and has not ended.
-#[derive(Clone, Copy)]
+#[derive(Clone, Copy, PartialEq, Eq, Debug)]
 pub struct Request {
     pub operation: Operation,
     pub number: u16,
 }
 
 // A confirmed invoke that was heard and is not answered yet.
-#[derive(Clone, Copy)]
+#[derive(Clone, Copy, PartialEq, Eq, Debug)]
 pub struct Owed {
     pub number: u16,
     pub identity: u16,
@@ -18,7 +18,7 @@ pub struct Owed {
 }
 
 // How far the call of a leg has come.
-#[derive(Clone, Copy)]
+#[derive(Clone, Copy, PartialEq, Eq, Debug)]
 pub enum Phase {
     Free,
     // called by this end for a transfer, not answered yet
@@ -31,7 +31,7 @@ pub enum Phase {
 }
 
 // Why a leg is bound to its partner, which waits for a reply.
-#[derive(Clone, Copy)]
+#[derive(Clone, Copy, PartialEq, Eq, Debug)]
 pub enum Bond {
     // the far end of the secondary is asked for its identity
     Consulting { secondary: Place },
@@ -42,7 +42,7 @@ pub enum Bond {
 }
 
 // What a leg's transfer waits for. An open request has its number, a partner its place.
-#[derive(Clone, Copy)]
+#[derive(Clone, Copy, PartialEq, Eq, Debug)]
 pub enum Transfer {
     Idle,
     // asked which identity it has
@@ -68,7 +68,7 @@ pub enum Transfer {
 }
 
 // This end as the one that holds.
-#[derive(Clone, Copy)]
+#[derive(Clone, Copy, PartialEq, Eq, Debug)]
 pub enum Holder {
     Idle,
     NearHolding,
@@ -77,27 +77,19 @@ pub enum Holder {
     RetrieveRequested { number: u16 },
 }
 
-// This end as the one that is held.
-#[derive(Clone, Copy)]
-pub enum Held {
-    Idle,
-    Near,
-    Remote,
-}
-
 // Where a call is held: at this end, or at the far end.
-#[derive(Clone, Copy)]
+#[derive(Clone, Copy, PartialEq, Eq, Debug)]
 pub enum HoldKind {
     Near,
     Remote,
 }
 
-// A peer that does not apply is 0.
-#[derive(Clone, Copy)]
+// A peer that does not apply is 0. A leg is held where its far end put this end on hold.
+#[derive(Clone, Copy, PartialEq, Eq, Debug)]
 pub struct Leg {
     pub phase: Phase,
     pub peer: u16,
     pub transfer: Transfer,
     pub holder: Holder,
-    pub held: Held,
+    pub held: Option<HoldKind>,
 }

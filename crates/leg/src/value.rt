@@ -2,7 +2,7 @@
 ghost use Rattle.std.specs.Prelude.{◌≤◌};
 
 // A timer's value in ticks. The type keeps it within 1 to 3,600, so that it is added to any time of the board without a test.
-#[derive(Clone, Copy)]
+#[derive(Clone, Copy, PartialEq, Eq, Debug)]
 pub struct TimerValue {
     pub ticks: u16,
     ghost least: { 1 ≤ ticks },

@@ -1,5 +1,6 @@
 // The values of the six timers.
-ghost use Rattle.std.specs.Prelude.{◌≡◌, true, false, Ok, Err};
+ghost use Rattle.std.specs.Prelude.{◌≡◌, true, false, MatchResult};
+ghost use Rattle.leg.specs.declared.codes.Refusal.TheVariants.{BadSettings};
 ghost use Rattle.leg.specs.Values.{in_timer_range, all_in_range, value_of};
 
 use crate::codes::Refusal;
@@ -7,7 +8,7 @@ use crate::reaction::Timer;
 use crate::value::TimerValue;
 
 // How long each timer runs, as set by the host.
-#[derive(Clone, Copy)]
+#[derive(Clone, Copy, PartialEq, Eq, Debug)]
 pub struct TimerValues {
     pub ct_t1: TimerValue,
     pub ct_t2: TimerValue,
@@ -17,14 +18,15 @@ pub struct TimerValues {
     pub hold_t2: TimerValue,
 }
 
-impl TimerValue {
+impl TryFrom<u64> for TimerValue {
+    type Error = Refusal;
+
+    ghost try_from_gives = { λ ticks r. MatchResult r
+        (λ value. (in_timer_range ticks ≡ true) × (value.ticks ≡ ticks))
+        (λ refusal. (in_timer_range ticks ≡ false) × (refusal ≡ BadSettings)) };
+
     // Any value but 1 to 3,600 ticks is refused.
-    fn new(ticks: u64) -> Result<TimerValue, Refusal>
-        ensures { elim result [
-          | Ok v ↦ (in_timer_range ticks ≡ true) × (v.ticks ≡ ticks)
-          | Err e ↦ (in_timer_range ticks ≡ false) × (e ≡ Refusal.BadSettings)
-        ] }
-    {
+    fn try_from(ticks: u64) -> Result<TimerValue, Refusal> {
         match ticks {
             1..=3600 => Ok(TimerValue {
                 ticks: ticks as u16,
@@ -44,20 +46,19 @@ impl TimerValues {
         hold_t1: u64,
         hold_t2: u64,
     ) -> Result<TimerValues, Refusal>
-        ensures { elim result [
-          | Ok v ↦ (all_in_range ct_t1 ct_t2 ct_t3 ct_t4 hold_t1 hold_t2 ≡ true)
-              × (v.ct_t1.ticks ≡ ct_t1) × (v.ct_t2.ticks ≡ ct_t2) × (v.ct_t3.ticks ≡ ct_t3)
-              × (v.ct_t4.ticks ≡ ct_t4) × (v.hold_t1.ticks ≡ hold_t1) × (v.hold_t2.ticks ≡ hold_t2)
-          | Err e ↦ (all_in_range ct_t1 ct_t2 ct_t3 ct_t4 hold_t1 hold_t2 ≡ false) × (e ≡ Refusal.BadSettings)
-        ] }
+        ensures { MatchResult result
+            (λ values. (all_in_range ct_t1 ct_t2 ct_t3 ct_t4 hold_t1 hold_t2 ≡ true)
+            × (values.ct_t1.ticks ≡ ct_t1) × (values.ct_t2.ticks ≡ ct_t2) × (values.ct_t3.ticks ≡ ct_t3)
+            × (values.ct_t4.ticks ≡ ct_t4) × (values.hold_t1.ticks ≡ hold_t1) × (values.hold_t2.ticks ≡ hold_t2))
+            (λ refusal. (all_in_range ct_t1 ct_t2 ct_t3 ct_t4 hold_t1 hold_t2 ≡ false) × (refusal ≡ BadSettings)) }
     {
         Ok(TimerValues {
-            ct_t1: TimerValue::new(ct_t1)?,
-            ct_t2: TimerValue::new(ct_t2)?,
-            ct_t3: TimerValue::new(ct_t3)?,
-            ct_t4: TimerValue::new(ct_t4)?,
-            hold_t1: TimerValue::new(hold_t1)?,
-            hold_t2: TimerValue::new(hold_t2)?,
+            ct_t1: TimerValue::try_from(ct_t1)?,
+            ct_t2: TimerValue::try_from(ct_t2)?,
+            ct_t3: TimerValue::try_from(ct_t3)?,
+            ct_t4: TimerValue::try_from(ct_t4)?,
+            hold_t1: TimerValue::try_from(hold_t1)?,
+            hold_t2: TimerValue::try_from(hold_t2)?,
         })
     }
 

@@ -3,7 +3,7 @@ ghost use Rattle.std.specs.Prelude.{◌≡◌};
 ghost use Rattle.leg.specs.Views.{free_leg, active_leg, calling_leg, in_use, is_active, is_idle, is_awaiting_setup, is_unheld, transfer_request, hold_request, bond_owed, owed_by, bond_partner, partner_of};
 
 use crate::place::Place;
-use crate::record::{Bond, Held, Holder, Leg, Owed, Phase, Request, Transfer};
+use crate::record::{Bond, Holder, Leg, Owed, Phase, Request, Transfer};
 use message::Operation;
 
 // The record of a leg that serves no call.
@@ -12,7 +12,7 @@ pub const FREE: Leg = Leg {
     peer: 0,
     transfer: Transfer::Idle,
     holder: Holder::Idle,
-    held: Held::Idle,
+    held: None,
 };
 
 impl Bond {
@@ -95,7 +95,7 @@ impl Leg {
     pub fn is_unheld(&self) -> bool
         ensures { result ≡ is_unheld self.now }
     {
-        matches!(self.holder, Holder::Idle) && matches!(self.held, Held::Idle)
+        matches!(self.holder, Holder::Idle) && self.held.is_none()
     }
 
     // The open request that the transfer timer watches.
@@ -127,12 +127,9 @@ impl Leg {
     pub fn owed(&self) -> Option<Owed>
         ensures { result ≡ owed_by self.now }
     {
-        if let Phase::Ringing(owed) = self.phase {
-            return Some(owed);
-        }
-        match self.transfer {
-            Transfer::Asked(owed) => Some(owed),
-            Transfer::Bound(bond) => bond.owed(),
+        match (self.phase, self.transfer) {
+            (Phase::Ringing(owed), _) | (_, Transfer::Asked(owed)) => Some(owed),
+            (_, Transfer::Bound(bond)) => bond.owed(),
             _ => None,
         }
     }
