@@ -16,9 +16,9 @@ use Rattle.leg.specs.declared.record.HoldKind.TheVariants as hold
 use Rattle.leg.specs.declared.record.Leg.{Leg}
 use Rattle.leg.specs.declared.reaction.Timer.TheVariants as timer
 use Rattle.leg.specs.declared.reaction.Word.TheVariants as word
-use Rattle.leg.specs.declared.reaction.Tell.TheVariants as tell
 use Rattle.leg.specs.declared.reaction.Named.TheVariants as named
 use Rattle.leg.specs.declared.reaction.Reaction.{Reaction}
+use Rattle.leg.specs.Tells.{tell_leg}
 use Rattle.leg.specs.Views.{active_leg, calling_leg, in_use, is_active, is_idle, is_unheld, when_ringing, when_asked, with_phase, with_transfer, with_holder}
 use Rattle.machine.specs.Messages.{release_on, notice_on, request_on, result_on, error_on}
 use Rattle.machine.specs.Reactions.{acting, requesting, hold_requesting, leaving, tell_lost}
@@ -38,7 +38,7 @@ numbered next f = elim next [ None ↦ Err refusal.NoNumberLeft | Some n ↦ Ok 
 -- an initiate goes out: the far end is to call the address, where the identity is known
 abbrev pub initiating : Leg → Place → Option Place → ℕ → ℕ → Option ℕ → Result Reaction Refusal
 initiating l at s i a next =
-    numbered next (λ n. requesting (with_transfer l (transfer.AwaitInitiate n s)) (request_on at carrier.Facility operation.CallTransferInitiate n i a) timer.CtT3 tell.Nobody)
+    numbered next (λ n. requesting (with_transfer l (transfer.AwaitInitiate n s)) (request_on at carrier.Facility operation.CallTransferInitiate n i a) timer.CtT3 None)
 
 -- transfer: without consultation, so with no secondary and identity 0
 abbrev pub transferring : Leg → Place → ℕ → Option ℕ → Result Reaction Refusal
@@ -50,12 +50,12 @@ transferring l at a next =
 -- consult, on the secondary: its far end is asked for an identity, and the primary is bound to it
 abbrev pub identifying : Leg → Place → Place → Option ℕ → Result Reaction Refusal
 identifying l at p next =
-    numbered next (λ n. requesting (with_transfer l (transfer.AwaitIdentify n p)) (request_on at carrier.Facility operation.CallTransferIdentify n 0 0) timer.CtT1 (tell.Leg p (word.Consult at)))
+    numbered next (λ n. requesting (with_transfer l (transfer.AwaitIdentify n p)) (request_on at carrier.Facility operation.CallTransferIdentify n 0 0) timer.CtT1 (tell_leg p (word.Consult at)))
 
 -- place, on the new leg: SETUP to the address asked for, with the identity asked for and this station's own number; the primary is bound to it
 abbrev pub placing : Place → Place → Owed → ℕ → Option ℕ → Result Reaction Refusal
 placing at p o own next =
-    numbered next (λ n. requesting (calling_leg o.address n p) (request_on at carrier.Setup operation.CallTransferSetup n o.identity own) timer.CtT4 (tell.Leg p (word.Place at)))
+    numbered next (λ n. requesting (calling_leg o.address n p) (request_on at carrier.Setup operation.CallTransferSetup n o.identity own) timer.CtT4 (tell_leg p (word.Place at)))
 
 -- accept: CONNECT with the result of the set-up, and the leg is active
 abbrev pub accepting : Leg → Place → Result Reaction Refusal

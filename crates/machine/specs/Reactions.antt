@@ -18,46 +18,46 @@ use Rattle.leg.specs.declared.reaction.UpToTwo.TheVariants as few
 use Rattle.leg.specs.declared.reaction.Word.{Word}
 use Rattle.leg.specs.declared.reaction.Word.TheVariants as word
 use Rattle.leg.specs.declared.reaction.Tell.{Tell}
-use Rattle.leg.specs.declared.reaction.Tell.TheVariants as tell
 use Rattle.leg.specs.declared.reaction.Named.{Named}
 use Rattle.leg.specs.declared.reaction.Named.TheVariants as named
 use Rattle.leg.specs.declared.reaction.Reaction.{Reaction}
 use Rattle.leg.specs.Reactions.{up_to_two}
+use Rattle.leg.specs.Tells.{tell_leg}
 use Rattle.leg.specs.Views.{free_leg, transfer_request, hold_request, partner_of, with_transfer}
 
-abbrev pub reaction : Leg → Option Message → UpToTwo Ended → TimerChange → TimerChange → Tell → Note → Reaction
+abbrev pub reaction : Leg → Option Message → UpToTwo Ended → TimerChange → TimerChange → Option Tell → Note → Reaction
 reaction l m es t h w n = record { leg = l; sent = m; ends = es; transfer_timer = t; hold_timer = h; tell = w; note = n }
 
 -- the record l, perhaps a message, a note, and nothing else
 abbrev pub acting : Leg → Option Message → Note → Reaction
-acting l m n = reaction l m few.Zero timer.Kept timer.Kept tell.Nobody n
+acting l m n = reaction l m few.Zero timer.Kept timer.Kept None n
 
 -- a message that fits nothing changes nothing
 abbrev pub strayed : Leg → Reaction
 strayed l = acting l None note.Stray
 
 -- a request goes out, and the transfer timer runs
-abbrev pub requesting : Leg → Message → Timer → Tell → Reaction
+abbrev pub requesting : Leg → Message → Timer → Option Tell → Reaction
 requesting l m t w = reaction l (Some m) few.Zero (timer.Set t) timer.Kept w note.Done
 
 -- a request goes out, and the hold timer runs
 abbrev pub hold_requesting : Leg → Message → Timer → Reaction
-hold_requesting l m t = reaction l (Some m) few.Zero timer.Kept (timer.Set t) tell.Nobody note.Done
+hold_requesting l m t = reaction l (Some m) few.Zero timer.Kept (timer.Set t) None note.Done
 
 abbrev pub ended_by : ℕ → Cause → Ended
 ended_by n c = record { number = n; cause = c }
 
 -- the transfer's request ends, and its timer stops
-abbrev pub settling : Leg → Option Message → ℕ → Cause → Tell → Reaction
+abbrev pub settling : Leg → Option Message → ℕ → Cause → Option Tell → Reaction
 settling l m n c w = reaction l m (few.One (ended_by n c)) timer.Stopped timer.Kept w note.Done
 
 -- the hold's request ends, and its timer stops
 abbrev pub hold_settling : Leg → ℕ → Cause → Reaction
-hold_settling l n c = reaction l None (few.One (ended_by n c)) timer.Kept timer.Stopped tell.Nobody note.Done
+hold_settling l n c = reaction l None (few.One (ended_by n c)) timer.Kept timer.Stopped None note.Done
 
 -- the set-up is awaited no longer, and its timer stops
 abbrev pub unawaited : Leg → Note → Reaction
-unawaited l n = reaction (with_transfer l transfer.Idle) None few.Zero timer.Stopped timer.Kept tell.Nobody n
+unawaited l n = reaction (with_transfer l transfer.Idle) None few.Zero timer.Stopped timer.Kept None n
 
 abbrev pub request_end : Option Request → Cause → Option Ended
 request_end o c = elim o [ None ↦ None | Some r ↦ Some (ended_by r.number c) ]
@@ -71,12 +71,12 @@ last_ends l k = elim k [
 ]
 
 -- the leg ends: it is free, both timers stop, its requests end, what it owes is dropped
-abbrev pub leaving : Leg → Option Message → Named → Tell → Reaction
+abbrev pub leaving : Leg → Option Message → Named → Option Tell → Reaction
 leaving l m k w = reaction free_leg m (last_ends l k) timer.Stopped timer.Stopped w note.Done
 
-abbrev pub tell_to : Option Place → Word → Tell
-tell_to o w = elim o [ None ↦ tell.Nobody | Some p ↦ tell.Leg p w ]
+abbrev pub tell_to : Option Place → Word → Option Tell
+tell_to o w = elim o [ None ↦ None | Some p ↦ tell_leg p w ]
 
 -- the partner, if there is one, is told that this leg ended
-abbrev pub tell_lost : Leg → Tell
+abbrev pub tell_lost : Leg → Option Tell
 tell_lost l = tell_to (partner_of l) word.Lost

@@ -16,9 +16,9 @@ use Rattle.leg.specs.declared.record.Transfer.TheVariants as transfer
 use Rattle.leg.specs.declared.record.Holder.TheVariants as holder
 use Rattle.leg.specs.declared.record.Leg.{Leg}
 use Rattle.leg.specs.declared.reaction.Word.TheVariants as word
-use Rattle.leg.specs.declared.reaction.Tell.TheVariants as tell
 use Rattle.leg.specs.declared.reaction.Named.TheVariants as named
 use Rattle.leg.specs.declared.reaction.Reaction.{Reaction}
+use Rattle.leg.specs.Tells.{tell_leg}
 use Rattle.leg.specs.Views.{in_use, is_alerting, when_await_identify, when_await_initiate, when_await_setup_response, when_hold_requested, when_retrieve_requested, with_phase, with_transfer, with_holder}
 use Rattle.machine.specs.Messages.{release_on}
 use Rattle.machine.specs.Reactions.{acting, strayed, settling, hold_settling, leaving, tell_to, tell_lost}
@@ -28,7 +28,7 @@ use Rattle.machine.specs.Invokes.{invoked}
 abbrev pub identify_result : Leg → Message → Reaction
 identify_result l m =
     when_await_identify l.transfer
-    (λ n p. cond (n == m.number) (settling (with_transfer l (transfer.Bound (bond.Consulted p))) None n cause.Result (tell.Leg p (word.Initiate m.identity m.address))) (strayed l))
+    (λ n p. cond (n == m.number) (settling (with_transfer l (transfer.Bound (bond.Consulted p))) None n cause.Result (tell_leg p (word.Initiate m.identity m.address))) (strayed l))
     (strayed l)
 
 -- the transfer is done: the secondary parts, and this leg, now without use, ends
@@ -62,7 +62,7 @@ resulted l at o m = elim o [
 -- no identity: both legs of the consultation are as before it
 abbrev pub identify_fault : Leg → Message → Reaction
 identify_fault l m =
-    when_await_identify l.transfer (λ n p. cond (n == m.number) (settling (with_transfer l transfer.Idle) None n cause.Fault (tell.Leg p word.Part)) (strayed l)) (strayed l)
+    when_await_identify l.transfer (λ n p. cond (n == m.number) (settling (with_transfer l transfer.Idle) None n cause.Fault (tell_leg p word.Part)) (strayed l)) (strayed l)
 
 -- no transfer: the secondary tells its far end not to wait
 abbrev pub initiate_fault : Leg → Message → Reaction
@@ -98,7 +98,7 @@ connected_leg l p = record { phase = p; peer = l.peer; transfer = transfer.Idle;
 abbrev pub setup_result : Leg → Message → Phase → Reaction → Reaction
 setup_result l m p other =
     cond (of_kind m.kind kind.Result && names m.operation operation.CallTransferSetup)
-    (when_await_setup_response l.transfer (λ n q. cond (n == m.number) (settling (connected_leg l p) None n cause.Result (tell.Leg q word.Complete)) other) other)
+    (when_await_setup_response l.transfer (λ n q. cond (n == m.number) (settling (connected_leg l p) None n cause.Result (tell_leg q word.Complete)) other) other)
     other
 
 abbrev pub alerted : Leg → Message → Reaction
@@ -119,7 +119,7 @@ released_by_result l m =
 
 abbrev pub released_by_fault : Leg → Message → Reaction
 released_by_fault l m =
-    when_await_setup_response l.transfer (λ n p. cond (n == m.number) (leaving l None (named.Transfer cause.Fault) (tell.Leg p word.Lost)) (lost l)) (lost l)
+    when_await_setup_response l.transfer (λ n p. cond (n == m.number) (leaving l None (named.Transfer cause.Fault) (tell_leg p word.Lost)) (lost l)) (lost l)
 
 abbrev pub released : Leg → Message → Reaction
 released l m =

@@ -10,9 +10,9 @@ use Rattle.leg.specs.declared.record.Leg.{Leg}
 use Rattle.leg.specs.declared.reaction.TimerChange.TheVariants as change
 use Rattle.leg.specs.declared.reaction.UpToTwo.TheVariants as few
 use Rattle.leg.specs.declared.reaction.Word.TheVariants as word
-use Rattle.leg.specs.declared.reaction.Tell.TheVariants as tell
 use Rattle.leg.specs.declared.reaction.Named.TheVariants as named
 use Rattle.leg.specs.declared.reaction.Reaction.{Reaction}
+use Rattle.leg.specs.Tells.{tell_leg}
 use Rattle.leg.specs.Views.{with_transfer, with_holder}
 use Rattle.machine.specs.Messages.{release_on, notice_on}
 use Rattle.machine.specs.Reactions.{reaction, settling, hold_settling, unawaited, leaving, tell_to, tell_lost}
@@ -22,17 +22,17 @@ use Rattle.leg.specs.declared.reaction.Slot.TheVariants as slot
 -- a timer that nothing waits for only stops
 abbrev pub expired : Leg → Slot → Reaction
 expired l k = elim k [
-  | slot.Transfer ↦ reaction l None few.Zero change.Stopped change.Kept tell.Nobody note.Done
-  | slot.Hold ↦ reaction l None few.Zero change.Kept change.Stopped tell.Nobody note.Done
+  | slot.Transfer ↦ reaction l None few.Zero change.Stopped change.Kept None note.Done
+  | slot.Hold ↦ reaction l None few.Zero change.Kept change.Stopped None note.Done
 ]
 
 -- CT-T1: both legs are as before, and the far end is told not to wait. CT-T3: the same of the secondary. CT-T4: the call is given up. CT-T2: no set-up came.
 abbrev pub transfer_timed_out : Leg → Place → Reaction
 transfer_timed_out l at = elim l.transfer [
   | transfer.Idle ↦ expired l slot.Transfer
-  | transfer.AwaitIdentify n p ↦ settling (with_transfer l transfer.Idle) (Some (notice_on at operation.CallTransferAbandon)) n cause.Timeout (tell.Leg p word.Part)
+  | transfer.AwaitIdentify n p ↦ settling (with_transfer l transfer.Idle) (Some (notice_on at operation.CallTransferAbandon)) n cause.Timeout (tell_leg p word.Part)
   | transfer.AwaitInitiate n s ↦ settling (with_transfer l transfer.Idle) None n cause.Timeout (tell_to s word.Abandon)
-  | transfer.AwaitSetupResponse n p ↦ leaving l (Some (release_on at)) (named.Transfer cause.Timeout) (tell.Leg p word.Lost)
+  | transfer.AwaitSetupResponse n p ↦ leaving l (Some (release_on at)) (named.Transfer cause.Timeout) (tell_leg p word.Lost)
   | transfer.AwaitSetup ↦ unawaited l note.SetupLapsed
   | transfer.Asked _ ↦ expired l slot.Transfer
   | transfer.Bound _ ↦ expired l slot.Transfer

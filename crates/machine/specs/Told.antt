@@ -14,7 +14,6 @@ use Rattle.leg.specs.declared.record.Transfer.TheVariants as transfer
 use Rattle.leg.specs.declared.record.Leg.{Leg}
 use Rattle.leg.specs.declared.reaction.Word.{Word}
 use Rattle.leg.specs.declared.reaction.Word.TheVariants as word
-use Rattle.leg.specs.declared.reaction.Tell.TheVariants as tell
 use Rattle.leg.specs.declared.reaction.Named.TheVariants as named
 use Rattle.leg.specs.declared.reaction.Reaction.{Reaction}
 use Rattle.leg.specs.Views.{when_asked, when_bound, with_transfer}
@@ -42,7 +41,7 @@ abbrev pub bond_completes : Leg → Place → Bond → Reaction
 bond_completes l at b = elim b [
   | bond.Consulting _ ↦ unmoved l
   | bond.Consulted _ ↦ unmoved l
-  | bond.Placing _ o ↦ leaving l (Some (result_on at carrier.ReleaseComplete operation.CallTransferInitiate o.number)) named.Neither tell.Nobody
+  | bond.Placing _ o ↦ leaving l (Some (result_on at carrier.ReleaseComplete operation.CallTransferInitiate o.number)) named.Neither None
 ]
 
 -- what a bound leg sends when its partner has ended
@@ -57,9 +56,9 @@ bond_sends at b = elim b [
 abbrev pub partner_lost : Leg → Place → Reaction
 partner_lost l at = elim l.transfer [
   | transfer.Idle ↦ unmoved l
-  | transfer.AwaitIdentify n _ ↦ settling (with_transfer l transfer.Idle) (Some (notice_on at operation.CallTransferAbandon)) n cause.Cleared tell.Nobody
+  | transfer.AwaitIdentify n _ ↦ settling (with_transfer l transfer.Idle) (Some (notice_on at operation.CallTransferAbandon)) n cause.Cleared None
   | transfer.AwaitInitiate n _ ↦ unmoved (with_transfer l (transfer.AwaitInitiate n None))
-  | transfer.AwaitSetupResponse _ _ ↦ leaving l (Some (release_on at)) named.Neither tell.Nobody
+  | transfer.AwaitSetupResponse _ _ ↦ leaving l (Some (release_on at)) named.Neither None
   | transfer.AwaitSetup ↦ unmoved l
   | transfer.Asked _ ↦ unmoved l
   | transfer.Bound b ↦ parting l (bond_sends at b)
@@ -73,6 +72,6 @@ told_word l at w next = elim w [
   | word.Part ↦ Ok (parting l None)
   | word.Abandon ↦ Ok (parting l (Some (notice_on at operation.CallTransferAbandon)))
   | word.Complete ↦ Ok (when_bound l.transfer (bond_completes l at) (unmoved l))
-  | word.Met ↦ Ok (leaving l (Some (release_on at)) named.Neither tell.Nobody)
+  | word.Met ↦ Ok (leaving l (Some (release_on at)) named.Neither None)
   | word.Lost ↦ Ok (partner_lost l at)
 ]

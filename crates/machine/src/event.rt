@@ -2,7 +2,7 @@
 use leg::{HoldKind, Owed, Place, Slot};
 use message::Message;
 
-#[derive(Clone, Copy)]
+#[derive(Clone, Copy, PartialEq, Eq, Debug)]
 pub enum Event {
     // a call with this peer begins
     Open {

@@ -5,14 +5,14 @@ mod calls;
 pub mod event;
 mod events;
 mod heard;
+mod holds;
 mod invokes;
 mod messages;
-mod parts;
 mod reactions;
 mod replies;
 mod timeouts;
+pub mod view;
 mod words;
 
 pub use event::Event;
-pub use events::react;
-pub use words::told;
+pub use view::View;

@@ -2,90 +2,95 @@
 ghost use Rattle.std.specs.Prelude.{◌≡◌};
 ghost use Rattle.machine.specs.Timeouts.{expired, transfer_timed_out, hold_timed_out, timed_out};
 
-use crate::messages::{notice_on, release_on};
-use crate::parts::{with_holder, with_transfer};
-use crate::reactions::{act, leave, settle, settle_hold, stop_awaiting, tell_lost, tell_to};
-use leg::{
-    Cause, Holder, Leg, Named, Note, Place, Reaction, Slot, Tell, TimerChange, Transfer, Word,
-};
+use crate::reactions::{act, settle, settle_hold, tell_to};
+use crate::view::View;
+use leg::{Cause, Holder, Leg, Named, Note, Reaction, Slot, Tell, TimerChange, Transfer, Word};
 use message::Operation;
 
-// A timer that nothing waits for only stops.
-fn expire(leg: &Leg, slot: Slot) -> Reaction
-    ensures { result ≡ expired leg.now slot }
-{
-    let same = act(*leg, None, Note::Done);
-    match slot {
-        Slot::Transfer => Reaction {
-            transfer_timer: TimerChange::Stopped,
-            ..same
-        },
-        Slot::Hold => Reaction {
-            hold_timer: TimerChange::Stopped,
-            ..same
-        },
-    }
-}
-
-// The legs are as before the request, and a far end that would wait for a set-up is told not to; a call that was set up for a transfer is given up.
-fn transfer_timed_out(leg: &Leg, at: Place) -> Reaction
-    ensures { result ≡ transfer_timed_out leg.now at }
-{
-    match leg.transfer {
-        Transfer::AwaitIdentify { number, primary } => settle(
-            with_transfer(leg, Transfer::Idle),
-            Some(notice_on(at, Operation::CallTransferAbandon)),
-            number,
-            Cause::Timeout,
-            Tell::Leg {
-                to: primary,
-                word: Word::Part,
+impl View {
+    // A timer that nothing waits for only stops.
+    fn expire(self, slot: Slot) -> Reaction
+        ensures { result ≡ expired self.leg slot }
+    {
+        let same = act(self.leg, None, Note::Done);
+        match slot {
+            Slot::Transfer => Reaction {
+                transfer_timer: TimerChange::Stopped,
+                ..same
             },
-        ),
-        Transfer::AwaitInitiate { number, secondary } => settle(
-            with_transfer(leg, Transfer::Idle),
-            None,
-            number,
-            Cause::Timeout,
-            tell_to(secondary, Word::Abandon),
-        ),
-        Transfer::AwaitSetupResponse { primary, .. } => leave(
-            leg,
-            Some(release_on(at)),
-            Named::Transfer(Cause::Timeout),
-            Tell::Leg {
-                to: primary,
-                word: Word::Lost,
+            Slot::Hold => Reaction {
+                hold_timer: TimerChange::Stopped,
+                ..same
             },
-        ),
-        Transfer::AwaitSetup => stop_awaiting(leg, Note::SetupLapsed),
-        Transfer::Idle | Transfer::Asked(_) | Transfer::Bound(_) => expire(leg, Slot::Transfer),
-    }
-}
-
-// A hold that is not answered is none; a held call that cannot be fetched back is released.
-fn hold_timed_out(leg: &Leg, at: Place) -> Reaction
-    ensures { result ≡ hold_timed_out leg.now at }
-{
-    match leg.holder {
-        Holder::RemoteRequested { number } => {
-            settle_hold(with_holder(leg, Holder::Idle), number, Cause::Timeout)
         }
-        Holder::RetrieveRequested { .. } => leave(
-            leg,
-            Some(release_on(at)),
-            Named::Hold(Cause::Timeout),
-            tell_lost(leg),
-        ),
-        Holder::Idle | Holder::NearHolding | Holder::RemoteHolding => expire(leg, Slot::Hold),
     }
-}
 
-pub(crate) fn timed_out(leg: &Leg, at: Place, slot: Slot) -> Reaction
-    ensures { result ≡ timed_out leg.now at slot }
-{
-    match slot {
-        Slot::Transfer => transfer_timed_out(leg, at),
-        Slot::Hold => hold_timed_out(leg, at),
+    // The legs are as before the request, and a far end that would wait for a set-up is told not to; a call that was set up for a transfer is given up.
+    fn transfer_timed_out(self) -> Reaction
+        ensures { result ≡ transfer_timed_out self.leg self.at }
+    {
+        let idle = Leg {
+            transfer: Transfer::Idle,
+            ..self.leg
+        };
+        match self.leg.transfer {
+            Transfer::AwaitIdentify { number, primary } => settle(
+                idle,
+                Some(self.notice(Operation::CallTransferAbandon)),
+                number,
+                Cause::Timeout,
+                Some(Tell {
+                    to: primary,
+                    word: Word::Part,
+                }),
+            ),
+            Transfer::AwaitInitiate { number, secondary } => settle(
+                idle,
+                None,
+                number,
+                Cause::Timeout,
+                tell_to(secondary, Word::Abandon),
+            ),
+            Transfer::AwaitSetupResponse { primary, .. } => self.leave(
+                Some(self.release()),
+                Named::Transfer(Cause::Timeout),
+                Some(Tell {
+                    to: primary,
+                    word: Word::Lost,
+                }),
+            ),
+            Transfer::AwaitSetup => self.stop_awaiting(Note::SetupLapsed),
+            Transfer::Idle | Transfer::Asked(_) | Transfer::Bound(_) => self.expire(Slot::Transfer),
+        }
+    }
+
+    // A hold that is not answered is none; a held call that cannot be fetched back is released.
+    fn hold_timed_out(self) -> Reaction
+        ensures { result ≡ hold_timed_out self.leg self.at }
+    {
+        match self.leg.holder {
+            Holder::RemoteRequested { number } => {
+                let unheld = Leg {
+                    holder: Holder::Idle,
+                    ..self.leg
+                };
+                settle_hold(unheld, number, Cause::Timeout)
+            }
+            Holder::RetrieveRequested { .. } => self.leave(
+                Some(self.release()),
+                Named::Hold(Cause::Timeout),
+                self.tell_lost(),
+            ),
+            Holder::Idle | Holder::NearHolding | Holder::RemoteHolding => self.expire(Slot::Hold),
+        }
+    }
+
+    pub(crate) fn timed_out(self, slot: Slot) -> Reaction
+        ensures { result ≡ timed_out self.leg self.at slot }
+    {
+        match slot {
+            Slot::Transfer => self.transfer_timed_out(),
+            Slot::Hold => self.hold_timed_out(),
+        }
     }
 }
