@@ -25,12 +25,12 @@ use Rattle.leg.specs.declared.record.Transfer.{Transfer}
 use Rattle.leg.specs.declared.record.Transfer.TheVariants as transfer
 use Rattle.leg.specs.declared.record.Holder.{Holder}
 use Rattle.leg.specs.declared.record.Holder.TheVariants as holder
-use Rattle.leg.specs.declared.record.Held.TheVariants as held
+use Rattle.leg.specs.declared.record.HoldKind.TheVariants as hold
 use Rattle.leg.specs.declared.record.Leg.{Leg}
 use Rattle.leg.specs.declared.reaction.TimerChange.TheVariants as change
 use Rattle.leg.specs.declared.reaction.UpToTwo.TheVariants as few
 use Rattle.leg.specs.declared.reaction.Tell.{Tell}
-use Rattle.leg.specs.declared.reaction.Tell.TheVariants as tell
+use Rattle.leg.specs.Tells.{tell_leg}
 use Rattle.leg.specs.declared.reaction.Word.{Word}
 use Rattle.leg.specs.declared.reaction.Word.TheVariants as word
 use Rattle.leg.specs.declared.reaction.Named.TheVariants as named
@@ -60,9 +60,9 @@ pub data GoesOn : Phase → Type 0 where
   alerts : GoesOn phase.Alerting
   connects : GoesOn phase.Active
 
-goes_on : (q : ℕ) (p : Phase) → InWord q → GoesOn p → Sound (leg p q transfer.Idle holder.Idle held.Idle)
+goes_on : (q : ℕ) (p : Phase) → InWord q → GoesOn p → Sound (leg p q transfer.Idle holder.Idle None)
 goes_on q _ Q alerts = alerting q Q
-goes_on q _ Q connects = active q transfer.Idle holder.Idle held.Idle Q idle (holds holder.Idle)
+goes_on q _ Q connects = active q transfer.Idle holder.Idle None Q idle (holds holder.Idle)
 
 -- the numbers of a lawful message, its operation being known
 told_by : (m : Message) (o : Operation) → m.operation ≡ Some o → Lawful m → Told m m.kind o
@@ -110,22 +110,22 @@ module _ (Other : Place → Word → Bool) where
   invoked_fine at l own operation.CallTransferSetup m S W M = strayed_fine at l S
   invoked_fine at l own operation.HoldNotific m S W M =
       by_test (Fine Other at l) (is_active l && is_unheld l) _ _
-      (λ e. acting_fine at l (with_held l held.Near) None note.Held (held_here_lem l held.Near S e) tt refl)
+      (λ e. acting_fine at l (with_held l (Some hold.Near)) None note.Held (held_here_lem l (Some hold.Near) S e) tt refl)
       (λ _. strayed_fine at l S)
   invoked_fine at l own operation.RetrieveNotific m S W M =
-      by_test (Fine Other at l) (is_held_near l) _ _ (λ _. acting_fine at l (with_held l held.Idle) None note.Retrieved (with_held_idle l S) tt refl) (λ _. strayed_fine at l S)
+      by_test (Fine Other at l) (is_held_near l) _ _ (λ _. acting_fine at l (with_held l None) None note.Retrieved (with_held_idle l S) tt refl) (λ _. strayed_fine at l S)
   invoked_fine at l own operation.RemoteHold m S W M =
       by_test (Fine Other at l) (is_active l && is_unheld l) _ _
-      (λ e. acting_fine at l (with_held l held.Remote) _ note.Held (held_here_lem l held.Remote S e) (result_lawful at carrier.Facility operation.RemoteHold m.number refl M.number refl refl) refl)
+      (λ e. acting_fine at l (with_held l (Some hold.Remote)) _ note.Held (held_here_lem l (Some hold.Remote) S e) (result_lawful at carrier.Facility operation.RemoteHold m.number refl M.number refl refl) refl)
       (λ _. failed_fine at l operation.RemoteHold m.number _ S (error_lawful at carrier.Facility operation.RemoteHold m.number _ refl M.number refl refl))
   invoked_fine at l own operation.RemoteRetrieve m S W M =
       by_test (Fine Other at l) (is_held_remote l) _ _
-      (λ _. acting_fine at l (with_held l held.Idle) _ note.Retrieved (with_held_idle l S) (result_lawful at carrier.Facility operation.RemoteRetrieve m.number refl M.number refl refl) refl)
+      (λ _. acting_fine at l (with_held l None) _ note.Retrieved (with_held_idle l S) (result_lawful at carrier.Facility operation.RemoteRetrieve m.number refl M.number refl refl) refl)
       (λ _. failed_fine at l operation.RemoteRetrieve m.number _ S (error_lawful at carrier.Facility operation.RemoteRetrieve m.number _ refl M.number refl refl))
 
   -- ---- replies
 
-  settling_fine : (at : Place) (l k : Leg) (m : Option Message) (n : ℕ) (c : Cause) (w : Tell) → Sound k → LawfulIf m → Tells Other at (tie_of l) w (tie_of k) → Fine Other at l (settling k m n c w)
+  settling_fine : (at : Place) (l k : Leg) (m : Option Message) (n : ℕ) (c : Cause) (w : Option Tell) → Sound k → LawfulIf m → Tells Other at (tie_of l) w (tie_of k) → Fine Other at l (settling k m n c w)
   settling_fine at l k m n c w S L T = record { sound = S; lawful = L; tells = T; few = λ _. refl }
 
   identify_result_fine : (at : Place) (l : Leg) (m : Message) → Sound l → Told m kind.Result operation.CallTransferIdentify → Fine Other at l (identify_result l m)
@@ -207,10 +207,10 @@ module _ (Other : Place → Word → Bool) where
   faulted_fine at l operation.RemoteHold m S = hold_reply_fine at l m holder.Idle cause.Fault S
   faulted_fine at l operation.RemoteRetrieve m S = retrieve_fault_fine at l m S
 
-  answered : (at : Place) (l : Leg) (p : Phase) → Sound l → GoesOn p → (n : ℕ) (q : Place) → l.transfer ≡ transfer.AwaitSetupResponse n q → Fine Other at l (settling (connected_leg l p) None n cause.Result (tell.Leg q word.Complete))
+  answered : (at : Place) (l : Leg) (p : Phase) → Sound l → GoesOn p → (n : ℕ) (q : Place) → l.transfer ≡ transfer.AwaitSetupResponse n q → Fine Other at l (settling (connected_leg l p) None n cause.Result (tell_leg q word.Complete))
   answered at _ p free G n q e = absurd (false≢true (ap is_response e))
   answered at _ p (calling x k r X) G n q e =
-      settling_fine at (calling_leg x k r) (leg p x transfer.Idle holder.Idle held.Idle) None n cause.Result _ (goes_on x p X G) tt (tied at (calling_leg x k r) (transfer.AwaitSetupResponse n q) _ _ e (completes q))
+      settling_fine at (calling_leg x k r) (leg p x transfer.Idle holder.Idle None) None n cause.Result _ (goes_on x p X G) tt (tied at (calling_leg x k r) (transfer.AwaitSetupResponse n q) _ _ e (completes q))
   answered at _ p (ringing _ _ _ _) G n q e = absurd (false≢true (ap is_response e))
   answered at _ p (alerting _ _) G n q e = absurd (false≢true (ap is_response e))
   answered at _ p (active x t h d X T H) G n q e = absurd (false≢true (sym (no_response t T) ∙ ap is_response e))
@@ -227,7 +227,7 @@ module _ (Other : Place → Word → Bool) where
   picked_up at _ free e = absurd (false≢true e)
   picked_up at _ (calling _ _ _ _) e = absurd (false≢true e)
   picked_up at _ (ringing _ _ _ _) e = absurd (false≢true e)
-  picked_up at _ (alerting q Q) e = acting_fine at (leg phase.Alerting q transfer.Idle holder.Idle held.Idle) (active_leg q) None note.Done (active q transfer.Idle holder.Idle held.Idle Q idle (holds holder.Idle)) tt refl
+  picked_up at _ (alerting q Q) e = acting_fine at (leg phase.Alerting q transfer.Idle holder.Idle None) (active_leg q) None note.Done (active q transfer.Idle holder.Idle None Q idle (holds holder.Idle)) tt refl
   picked_up at _ (active _ _ _ _ _ _ _) e = absurd (false≢true e)
 
   alerted_fine : (at : Place) (l : Leg) (m : Message) → Sound l → Fine Other at l (alerted l m)
@@ -249,7 +249,7 @@ module _ (Other : Place → Word → Bool) where
       (λ _. by_test (Fine Other at l) ((of_kind m.kind kind.Error || of_kind m.kind kind.Reject) && names m.operation operation.CallTransferSetup) _ _
       (λ _. by_response (Fine Other at l) l.transfer _ _
       (λ n p e. by_test (Fine Other at l) (eqb n m.number) _ _
-      (λ _. leaving_fine at l None (named.Transfer cause.Fault) _ tt (tied at l (transfer.AwaitSetupResponse n p) _ _ e (loses (Tie.sets_up p))) (ap (λ (t : Transfer). end_follows (transfer_tie t) (tell.Leg p word.Lost)) e))
+      (λ _. leaving_fine at l None (named.Transfer cause.Fault) _ tt (tied at l (transfer.AwaitSetupResponse n p) _ _ e (loses (Tie.sets_up p))) (ap (λ (t : Transfer). end_follows (transfer_tie t) (tell_leg p word.Lost)) e))
       (λ _. gone))
       gone)
       (λ _. gone))
@@ -290,13 +290,13 @@ module _ (Other : Place → Word → Bool) where
   met_fine : (at : Place) (m : Message) (s : Option Place) → Told m kind.Invoke operation.CallTransferSetup → ((q : Place) → s ≡ Some q → (Other q word.Met ≡ true))
       → Fine Other at free_leg (elim s [
         | None ↦ acting free_leg (Some (error_on at carrier.ReleaseComplete operation.CallTransferSetup m.number error.UnrecognizedCallIdentity)) note.Done
-        | Some q ↦ reaction (active_leg m.address) (Some (result_on at carrier.Connect operation.CallTransferSetup m.number)) few.Zero change.Kept change.Kept (tell.Leg q word.Met) note.Done
+        | Some q ↦ reaction (active_leg m.address) (Some (result_on at carrier.Connect operation.CallTransferSetup m.number)) few.Zero change.Kept change.Kept (tell_leg q word.Met) note.Done
       ])
   met_fine at m None M X =
       acting_fine at free_leg free_leg _ note.Done free (error_lawful at carrier.ReleaseComplete operation.CallTransferSetup m.number error.UnrecognizedCallIdentity refl M.number refl refl) refl
   met_fine at m (Some q) M X =
       record {
-        sound = active m.address transfer.Idle holder.Idle held.Idle M.address idle (holds holder.Idle);
+        sound = active m.address transfer.Idle holder.Idle None M.address idle (holds holder.Idle);
         lawful = result_lawful at carrier.Connect operation.CallTransferSetup m.number refl M.number refl refl;
         tells = meets q (X q refl);
         few = λ _. refl;

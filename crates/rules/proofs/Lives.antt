@@ -1,5 +1,5 @@
 -- Every life of a board keeps its state consistent.
-use Rattle.std.proofs.Common.{◌≡◌, ℕ, ◌+◌, ◌^◌, ◌<◌, ◌≤◌, Bool, true, false, ◌&&◌, ◌||◌, ltb, leb, List, [], ◌∷◌, ◌++◌, length, Some, None, Ok, Err, Option, Result, sym, refl, ap, ◌∙◌, subst, arith, length-append}
+use Rattle.std.proofs.Common.{◌≡◌, ℕ, ◌+◌, ◌^◌, ◌<◌, ◌≤◌, Bool, false, ◌&&◌, ◌||◌, ltb, leb, List, [], ◌∷◌, ◌++◌, length, Some, None, Ok, Err, Option, Result, sym, refl, ap, ◌∙◌, subst, arith, length-append, is_err}
 use lib.ListN.{get_or-replicate}
 use Rattle.std.proofs.ByRecursion.{All-append}
 use Rattle.std.proofs.lemmas.Bool.{false≢true, and_parts, leb-true, ltb-false, ltb-true}
@@ -19,12 +19,10 @@ use Rattle.leg.specs.Reactions.{up_to_two}
 use Rattle.rules.specs.Sound.{Sound, free, InWord, NextInRange, LawfulIf, tie_of}
 use Rattle.rules.proofs.Cases.{by_test}
 use Rattle.timers.specs.declared.meaning.Due.{Due}
-use Rattle.rules.specs.declared.answer.Answer.{Answer}
-use Rattle.rules.specs.declared.answer.Answer.TheVariants as answer
+use Rattle.rules.specs.Answers.{Answer, did, taken, shown}
 use Rattle.rules.specs.declared.call.Call.{Call}
 use Rattle.rules.specs.declared.call.Call.TheVariants as call
-use Rattle.rules.specs.declared.plan.Other.{Other}
-use Rattle.rules.specs.declared.plan.Other.TheVariants as other
+use Rattle.rules.specs.declared.plan.Told.{Told}
 use Rattle.rules.specs.declared.plan.Plan.{Plan}
 use Rattle.rules.specs.declared.settings.Settings.{Settings}
 use Rattle.rules.specs.States.{State, fresh, leg_at, free_places}
@@ -47,9 +45,9 @@ sent_lawful None (Some m) A B = (B, tt)
 sent_lawful (Some m) None A B = (A, tt)
 sent_lawful (Some m) (Some n) A B = (A, (B, tt))
 
-other_lawful : (o : Other) → OtherFine o → LawfulIf (other_sent o)
-other_lawful other.Nobody F = tt
-other_lawful (other.Told q r) F = F.1
+other_lawful : (o : Option Told) → OtherFine o → LawfulIf (other_sent o)
+other_lawful None F = tt
+other_lawful (Some t) F = F.1
 
 one_more : (n : ℕ) → InWord n → n < 65535 → InWord (n + 1)
 one_more n e h = grind (arith, nat_tests)
@@ -59,13 +57,13 @@ following_fits None N = tt
 following_fits (Some n) N = by_test NextInRange (ltb n 65535) (Some (n + 1)) None (λ e. one_more n N (ltb-true n 65535 e)) (λ _. tt)
 
 module _ (s : State) (C : Consistent s) where
-  size_after : (legs : List Leg) (o : Other) → length legs ≡ 32 → length (put_other legs o) ≡ 32
-  size_after legs other.Nobody e = e
-  size_after legs (other.Told q r) e = size_put legs q r.leg ∙ e
+  size_after : (legs : List Leg) (o : Option Told) → length legs ≡ 32 → length (put_other legs o) ≡ 32
+  size_after legs None e = e
+  size_after legs (Some t) e = size_put legs t.to t.reaction.leg ∙ e
 
-  sound_after : (legs : List Leg) (o : Other) → length legs ≡ 32 → ((p : Place) → Sound (read legs p)) → OtherFine o → (p : Place) → Sound (read (put_other legs o) p)
-  sound_after legs other.Nobody e S F p = S p
-  sound_after legs (other.Told q r) e S F p = all_put legs q r.leg Sound e S F.0 p
+  sound_after : (legs : List Leg) (o : Option Told) → length legs ≡ 32 → ((p : Place) → Sound (read legs p)) → OtherFine o → (p : Place) → Sound (read (put_other legs o) p)
+  sound_after legs None e S F p = S p
+  sound_after legs (Some t) e S F p = all_put legs t.to t.reaction.leg Sound e S F.0 p
 
   after_consistent : (t : ℕ) (x : Plan) → Keeps s x → t ≤ 2 ^ 40 → ltb (free_places s) (length (listed (plan_sent x))) ≡ false → Consistent (after s t x)
   after_consistent t x K T room =
@@ -100,7 +98,7 @@ module _ (s : State) (C : Consistent s) where
   at_time_lem : (t : ℕ) → t ≤ 2 ^ 40 → Consistent (at_time s t)
   at_time_lem t T = record { size = C.size; sound = C.sound; partners = C.partners; next = C.next; time = T; lawful = C.lawful; fits = C.fits }
 
-  tick_to_lem : (t : ℕ) (o : Option Due) → t ≤ 2 ^ 40 → Good (elim o [ None ↦ (answer.Done note.NoneDue few.Zero few.Zero, at_time s t) | Some d ↦ settled s t (timeout_plan s d) ])
+  tick_to_lem : (t : ℕ) (o : Option Due) → t ≤ 2 ^ 40 → Good (elim o [ None ↦ (did note.NoneDue few.Zero few.Zero, at_time s t) | Some d ↦ settled s t (timeout_plan s d) ])
   tick_to_lem t None T = (tt, at_time_lem t T)
   tick_to_lem t (Some d) T = settled_good t (timeout_plan s d) (timeout_keeps s C d) T
 
@@ -110,14 +108,14 @@ module _ (s : State) (C : Consistent s) where
       (λ e. tick_to_lem t (due_by t s.deadlines) (leb-true t (2 ^ 40) (and_parts (leb s.time t) (leb t (2 ^ 40)) e).1))
       (λ _. (tt, C))
 
-  take_good : (w : List Message) → s.waiting ≡ w → Good (elim w [ [] ↦ (answer.Done note.QueueEmpty few.Zero few.Zero, s) | m ∷ ms ↦ (answer.Taken m, with_waiting s ms) ])
+  take_good : (w : List Message) → s.waiting ≡ w → Good (elim w [ [] ↦ (did note.QueueEmpty few.Zero few.Zero, s) | m ∷ ms ↦ (taken m, with_waiting s ms) ])
   take_good [] e = (tt, C)
   take_good (m ∷ ms) e =
       let L : AllByRecursion Lawful (m ∷ ms) = subst (AllByRecursion Lawful) e C.lawful in
       let n : length (m ∷ ms) ≤ s.capacity = subst (λ (w : List Message). length w ≤ s.capacity) e C.fits in
       (L.0, record { size = C.size; sound = C.sound; partners = C.partners; next = C.next; time = C.time; lawful = L.1; fits = omega (arith, n) })
 
-  look_good : (o : Option Place) → Good (elim o [ None ↦ (answer.Refused refusal.NoSuchLeg, s) | Some p ↦ (answer.Shown (leg_at s p), s) ])
+  look_good : (o : Option Place) → Good (elim o [ None ↦ (Err refusal.NoSuchLeg, s) | Some p ↦ (shown (leg_at s p), s) ])
   look_good None = (tt, C)
   look_good (Some p) = (tt, C)
 
@@ -197,29 +195,29 @@ ends_all_named settings capacity calls c x e = step_whole (runs (fresh settings 
 -- ---- refusals
 
 abbrev is_refused : Answer → Bool
-is_refused a = elim a [ answer.Refused _ ↦ true | answer.Done _ _ _ ↦ false | answer.Taken _ ↦ false | answer.Shown _ ↦ false ]
+is_refused a = is_err a
 
-done_refused : {X : Type 0} (a : Answer) (why : Refusal) → is_refused a ≡ false → a ≡ answer.Refused why → X
+done_refused : {X : Type 0} (a : Answer) (why : Refusal) → is_refused a ≡ false → a ≡ Err why → X
 done_refused a why f e = absurd (false≢true (sym f ∙ ap is_refused e))
 
 module _ (s : State) (why : Refusal) where
   abbrev Unchanged : Answer × State → Type 0
-  Unchanged a = a.0 ≡ answer.Refused why → a.1 ≡ s
+  Unchanged a = a.0 ≡ Err why → a.1 ≡ s
 
   settled_unchanged : (t : ℕ) (d : Result Plan Refusal) → Unchanged (settled s t d)
   settled_unchanged t (Err _) = λ _. refl
   settled_unchanged t (Ok x) =
       by_test Unchanged (ltb (free_places s) (length (listed (plan_sent x)))) _ _ (λ _ _. refl) (λ _ e. done_refused (done_by x) why refl e)
 
-  tick_unchanged : (t : ℕ) (o : Option Due) → Unchanged (elim o [ None ↦ (answer.Done note.NoneDue few.Zero few.Zero, at_time s t) | Some d ↦ settled s t (timeout_plan s d) ])
+  tick_unchanged : (t : ℕ) (o : Option Due) → Unchanged (elim o [ None ↦ (did note.NoneDue few.Zero few.Zero, at_time s t) | Some d ↦ settled s t (timeout_plan s d) ])
   tick_unchanged t None e = done_refused _ why refl e
   tick_unchanged t (Some d) e = settled_unchanged t (timeout_plan s d) e
 
-  take_unchanged : (w : List Message) → Unchanged (elim w [ [] ↦ (answer.Done note.QueueEmpty few.Zero few.Zero, s) | m ∷ ms ↦ (answer.Taken m, with_waiting s ms) ])
+  take_unchanged : (w : List Message) → Unchanged (elim w [ [] ↦ (did note.QueueEmpty few.Zero few.Zero, s) | m ∷ ms ↦ (taken m, with_waiting s ms) ])
   take_unchanged [] e = refl
   take_unchanged (m ∷ ms) e = done_refused _ why refl e
 
-  look_unchanged : (o : Option Place) → Unchanged (elim o [ None ↦ (answer.Refused refusal.NoSuchLeg, s) | Some p ↦ (answer.Shown (leg_at s p), s) ])
+  look_unchanged : (o : Option Place) → Unchanged (elim o [ None ↦ (Err refusal.NoSuchLeg, s) | Some p ↦ (shown (leg_at s p), s) ])
   look_unchanged None e = refl
   look_unchanged (Some p) e = refl
 

@@ -11,12 +11,10 @@ use Rattle.leg.specs.declared.record.Leg.{Leg}
 use Rattle.leg.specs.declared.record.Request.{Request}
 use Rattle.leg.specs.declared.record.Phase.TheVariants as phase
 use Rattle.leg.specs.declared.record.Holder.TheVariants as holder
-use Rattle.leg.specs.declared.record.Held.TheVariants as held
 use Rattle.message.specs.declared.codes.Operation.TheVariants as operation
 use Rattle.leg.specs.declared.reaction.Named.TheVariants as named
 use Rattle.leg.specs.declared.reaction.Reaction.{Reaction}
 use Rattle.leg.specs.declared.reaction.Tell.{Tell}
-use Rattle.leg.specs.declared.reaction.Tell.TheVariants as tell
 use Rattle.leg.specs.declared.reaction.UpToTwo.{UpToTwo}
 use Rattle.leg.specs.declared.reaction.UpToTwo.TheVariants as few
 use Rattle.leg.specs.declared.reaction.Word.{Word}
@@ -30,11 +28,10 @@ use Rattle.rules.specs.Sound.{leg, tie_ends, InWord, InIdentity, Sound, free, ca
 use Rattle.rules.specs.Events.{Fine, FineIf, FineTold, FineToldIf, ReadyFor}
 use Rattle.rules.proofs.Shapes.{waiting_active, idle_tie, one_left, is_response, no_response}
 use Rattle.rules.proofs.Tolds.{told_stays_sound}
-use Rattle.rules.specs.declared.plan.Other.{Other}
-use Rattle.rules.specs.declared.plan.Other.TheVariants as other
+use Rattle.rules.specs.declared.plan.Told.{Told}
 use Rattle.rules.specs.declared.plan.Plan.{Plan}
 use Rattle.rules.specs.States.{State, leg_at}
-use Rattle.rules.specs.Plans.{telling, planned, reacting, followed, listed, plan_ends, other_ends, put_leg, put_other}
+use Rattle.rules.specs.Plans.{telling, planned, reacting, followed, listed, plan_ends, other_ends, put_leg, put_other, also}
 use Rattle.rules.specs.Consistent.{Mutual, Consistent}
 use Rattle.rules.proofs.Tables.{read, read_same, read_other, size_put, place_cases}
 use Rattle.rules.proofs.Mutuals.{Linked, Joined, mutual_same, mutual_two, some_is, none_some, tied_returned}
@@ -75,8 +72,8 @@ module _ {A : Type 0} where
 
 -- ---- what a plan keeps
 
-abbrev pub OtherFine : Other → Type 0
-OtherFine o = elim o [ other.Nobody ↦ Unit {0} | other.Told _ r ↦ Sound r.leg × LawfulIf r.sent ]
+abbrev pub OtherFine : Option Told → Type 0
+OtherFine o = elim o [ None ↦ Unit {0} | Some t ↦ Sound t.reaction.leg × LawfulIf t.reaction.sent ]
 
 pub record Keeps (s : State) (x : Plan) : Type 0 where
   pub sound : Sound x.own.leg
@@ -93,7 +90,7 @@ module _ (s : State) (C : Consistent s) (p : Place) (r : Reaction) (F : Sound r.
   ties y = tie_of (leg_at s y)
 
   -- nobody is told, and the tie stays
-  alone_keeps : tie_of r.leg ≡ ties p → Keeps s (record { place = p; own = r; other = other.Nobody })
+  alone_keeps : tie_of r.leg ≡ ties p → Keeps s (record { place = p; own = r; other = None })
   alone_keeps e =
       record {
         sound = F;
@@ -113,7 +110,7 @@ module _ (s : State) (C : Consistent s) (p : Place) (r : Reaction) (F : Sound r.
   -- two legs step that have no other partners
   two_keep : (q : Place) (x : Reaction) → q.index ≢ p.index → Linked ties p q → Linked ties q p → FineTold x → Joined p q (tie_of r.leg) (tie_of x.leg)
       → listed (followed r.ends x.ends) ≡ listed r.ends ++ listed x.ends
-      → Keeps s (record { place = p; own = r; other = other.Told q x })
+      → Keeps s (record { place = p; own = r; other = also q x })
   two_keep q x apart lp lq X J W =
       record {
         sound = F;
@@ -144,7 +141,7 @@ module _ (s : State) (C : Consistent s) (p : Place) (r : Reaction) (F : Sound r.
   -- the partner is told
   partner_keeps : (t : Tie) (x : Reaction) → ties p ≡ Some t → FineTold x → Joined p (tied_to t) (tie_of r.leg) (tie_of x.leg)
       → listed (followed r.ends x.ends) ≡ listed r.ends ++ listed x.ends
-      → Keeps s (record { place = p; own = r; other = other.Told (tied_to t) x })
+      → Keeps s (record { place = p; own = r; other = also (tied_to t) x })
   partner_keeps t x e X J W =
       let B = C.partners p t e in
       two_keep (tied_to t) x B.1
@@ -155,7 +152,7 @@ module _ (s : State) (C : Consistent s) (p : Place) (r : Reaction) (F : Sound r.
   -- a leg is told that is no partner
   stranger_keeps : (q : Place) (x : Reaction) → q.index ≢ p.index → ties p ≡ None → ties q ≡ None → FineTold x → Joined p q (tie_of r.leg) (tie_of x.leg)
       → listed (followed r.ends x.ends) ≡ listed r.ends ++ listed x.ends
-      → Keeps s (record { place = p; own = r; other = other.Told q x })
+      → Keeps s (record { place = p; own = r; other = also q x })
   stranger_keeps q x apart e f X J W =
       two_keep q x apart (λ u g. none_some (ties p) u e g) (λ u g. none_some (ties q) u f g) X J W
 
@@ -165,16 +162,16 @@ abbrev is_awaiting : Transfer → Bool
 is_awaiting u = when_await_setup u true false
 
 abbrev request_in : Transfer → Option Request
-request_in u = transfer_request (leg phase.Active 0 u holder.Idle held.Idle)
+request_in u = transfer_request (leg phase.Active 0 u holder.Idle None)
 
 module _ (l : Leg) (q : Place) where
   -- the reaction to the loss of the partner, the transfer state being u
   abbrev pub lost_in : Transfer → Reaction
   lost_in u = elim u [
     | transfer.Idle ↦ unmoved l
-    | transfer.AwaitIdentify n _ ↦ settling (with_transfer l transfer.Idle) (Some (notice_on q operation.CallTransferAbandon)) n cause.Cleared tell.Nobody
+    | transfer.AwaitIdentify n _ ↦ settling (with_transfer l transfer.Idle) (Some (notice_on q operation.CallTransferAbandon)) n cause.Cleared None
     | transfer.AwaitInitiate n _ ↦ unmoved (with_transfer l (transfer.AwaitInitiate n None))
-    | transfer.AwaitSetupResponse _ _ ↦ leaving l (Some (release_on q)) named.Neither tell.Nobody
+    | transfer.AwaitSetupResponse _ _ ↦ leaving l (Some (release_on q)) named.Neither None
     | transfer.AwaitSetup ↦ unmoved l
     | transfer.Asked _ ↦ unmoved l
     | transfer.Bound b ↦ parting l (bond_sends q b)
@@ -377,8 +374,8 @@ module _ (s : State) (C : Consistent s) (p : Place) (r : Reaction) (F : Sound r.
   on_hand : (q : Place) (i a : ℕ) → tie_of (at p) ≡ Some (identifies q) → tie_of r.leg ≡ Some (Tie.consulted q) → InIdentity i → InWord a → Both q (word.Initiate i a)
   on_hand q i a e f I A = handed q i a s.next (at q).transfer refl (made (identifies q) e) e f (told q (word.Initiate i a) (I, A))
 
-  by_tells : (t0 : Option Tie) (w : Tell) (t1 : Option Tie) → tie_of (at p) ≡ t0 → tie_of r.leg ≡ t1 → Tells (may_tell s p) p t0 w t1 → (end_follows t0 w ≡ true → is_two r.ends ≡ false)
-      → KeepsIf s (elim w [ tell.Nobody ↦ Ok (record { place = p; own = r; other = other.Nobody }) | tell.Leg q v ↦ telling p r q (told_word (at q) q v s.next) ])
+  by_tells : (t0 : Option Tie) (w : Option Tell) (t1 : Option Tie) → tie_of (at p) ≡ t0 → tie_of r.leg ≡ t1 → Tells (may_tell s p) p t0 w t1 → (end_follows t0 w ≡ true → is_two r.ends ≡ false)
+      → KeepsIf s (elim w [ None ↦ Ok (record { place = p; own = r; other = None }) | Some v ↦ telling p r v.to (told_word (at v.to) v.to v.word s.next) ])
   by_tells _ _ _ e f (keeps t) w = alone_keeps s C p r F L (f ∙ sym e)
   by_tells _ _ _ e f (consults q X) w = on_consult q e f X
   by_tells _ _ _ e f (places q X) w = on_place q e f X

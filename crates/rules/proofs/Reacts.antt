@@ -12,13 +12,12 @@ use Rattle.leg.specs.declared.record.Owed.{Owed}
 use Rattle.leg.specs.declared.record.Phase.TheVariants as phase
 use Rattle.leg.specs.declared.record.Transfer.TheVariants as transfer
 use Rattle.leg.specs.declared.record.Holder.TheVariants as holder
-use Rattle.leg.specs.declared.record.Held.TheVariants as held
 use Rattle.leg.specs.declared.record.HoldKind.{HoldKind}
 use Rattle.leg.specs.declared.record.HoldKind.TheVariants as hold
 use Rattle.leg.specs.declared.record.Leg.{Leg}
 use Rattle.leg.specs.declared.reaction.Slot.{Slot}
 use Rattle.leg.specs.declared.reaction.Slot.TheVariants as slot
-use Rattle.leg.specs.declared.reaction.Tell.TheVariants as tell
+use Rattle.leg.specs.Tells.{tell_leg}
 use Rattle.leg.specs.declared.reaction.Word.{Word}
 use Rattle.leg.specs.declared.reaction.Word.TheVariants as word
 use Rattle.leg.specs.declared.reaction.Named.TheVariants as named
@@ -39,7 +38,7 @@ initiate_lawful at n i a N I A = request_lawful at carrier.Facility operation.Ca
 
 module _ (Other : Place → Word → Bool) where
   pub opening_fine : (at : Place) (l : Leg) (q : ℕ) → Sound l → InWord q → FineIf Other at l (opening l q)
-  opening_fine at _ q free Q = acting_fine at free_leg (active_leg q) None note.Done (active q transfer.Idle holder.Idle held.Idle Q idle (holds holder.Idle)) tt refl
+  opening_fine at _ q free Q = acting_fine at free_leg (active_leg q) None note.Done (active q transfer.Idle holder.Idle None Q idle (holds holder.Idle)) tt refl
   opening_fine at _ q (calling _ _ _ _) Q = tt
   opening_fine at _ q (ringing _ _ _ _) Q = tt
   opening_fine at _ q (alerting _ _) Q = tt
@@ -72,7 +71,7 @@ module _ (Other : Place → Word → Bool) where
       (λ n M. record {
         sound = with_transfer_lem l (transfer.AwaitIdentify n p) S e (identify n p);
         lawful = request_lawful at carrier.Facility operation.CallTransferIdentify n 0 0 refl M refl refl;
-        tells = subst (λ (t : Option Tie). Tells Other at t (tell.Leg p (word.Consult at)) (Some (Tie.identifies p))) (sym (idle_tie l f)) (consults p X);
+        tells = subst (λ (t : Option Tie). Tells Other at t (tell_leg p (word.Consult at)) (Some (Tie.identifies p))) (sym (idle_tie l f)) (consults p X);
         few = λ _. refl;
       })
 
@@ -94,7 +93,7 @@ module _ (Other : Place → Word → Bool) where
   accepting_fine at _ free = tt
   accepting_fine at _ (calling _ _ _ _) = tt
   accepting_fine at _ (ringing q o Q O) =
-      acting_fine at (leg (phase.Ringing o) q transfer.Idle holder.Idle held.Idle) (active_leg q) _ note.Done (active q transfer.Idle holder.Idle held.Idle Q idle (holds holder.Idle))
+      acting_fine at (leg (phase.Ringing o) q transfer.Idle holder.Idle None) (active_leg q) _ note.Done (active q transfer.Idle holder.Idle None Q idle (holds holder.Idle))
       (result_lawful at carrier.Connect operation.CallTransferSetup o.number refl O.number refl refl) refl
   accepting_fine at _ (alerting _ _) = tt
   accepting_fine at _ (active _ _ _ _ _ _ _) = tt
@@ -103,7 +102,7 @@ module _ (Other : Place → Word → Bool) where
   declining_fine at _ free = tt
   declining_fine at _ (calling _ _ _ _) = tt
   declining_fine at _ (ringing q o Q O) =
-      lost_fine at (leg (phase.Ringing o) q transfer.Idle holder.Idle held.Idle) _ named.Neither (error_lawful at carrier.ReleaseComplete operation.CallTransferSetup o.number error.Unspecified refl O.number refl refl)
+      lost_fine at (leg (phase.Ringing o) q transfer.Idle holder.Idle None) _ named.Neither (error_lawful at carrier.ReleaseComplete operation.CallTransferSetup o.number error.Unspecified refl O.number refl refl)
   declining_fine at _ (alerting _ _) = tt
   declining_fine at _ (active q _ h d Q idle H) = tt
   declining_fine at _ (active q _ h d Q (identify _ _) H) = tt
@@ -141,13 +140,13 @@ module _ (Other : Place → Word → Bool) where
   retrieving_fine at _ next (alerting _ _) N = tt
   retrieving_fine at _ next (active q t _ _ Q T (holds holder.Idle)) N = tt
   retrieving_fine at _ next (active q t _ _ Q T (holds holder.NearHolding)) N =
-      acting_fine at (leg phase.Active q t holder.NearHolding held.Idle) (leg phase.Active q t holder.Idle held.Idle) _ note.Done (active q t holder.Idle held.Idle Q T (holds holder.Idle))
+      acting_fine at (leg phase.Active q t holder.NearHolding None) (leg phase.Active q t holder.Idle None) _ note.Done (active q t holder.Idle None Q T (holds holder.Idle))
       (notice_lawful at operation.RetrieveNotific refl refl refl refl) refl
   retrieving_fine at _ next (active q t _ _ Q T (holds (holder.RemoteRequested _))) N = tt
   retrieving_fine at _ next (active q t _ _ Q T (holds holder.RemoteHolding)) N =
-      numbered_fine at (leg phase.Active q t holder.RemoteHolding held.Idle) next _ N
+      numbered_fine at (leg phase.Active q t holder.RemoteHolding None) next _ N
       (λ n M. record {
-        sound = active q t (holder.RetrieveRequested n) held.Idle Q T (holds (holder.RetrieveRequested n));
+        sound = active q t (holder.RetrieveRequested n) None Q T (holds (holder.RetrieveRequested n));
         lawful = request_lawful at carrier.Facility operation.RemoteRetrieve n 0 0 refl M refl refl;
         tells = keeps (transfer_tie t);
         few = λ _. refl;
@@ -173,12 +172,12 @@ module _ (Other : Place → Word → Bool) where
   hold_timed_out_fine at _ (calling q n p Q) = expired_fine at _ slot.Hold (calling q n p Q)
   hold_timed_out_fine at _ (ringing q o Q O) = expired_fine at _ slot.Hold (ringing q o Q O)
   hold_timed_out_fine at _ (alerting q Q) = expired_fine at _ slot.Hold (alerting q Q)
-  hold_timed_out_fine at _ (active q t _ _ Q T (holds holder.Idle)) = expired_fine at _ slot.Hold (active q t holder.Idle held.Idle Q T (holds holder.Idle))
-  hold_timed_out_fine at _ (active q t _ _ Q T (holds holder.NearHolding)) = expired_fine at _ slot.Hold (active q t holder.NearHolding held.Idle Q T (holds holder.NearHolding))
-  hold_timed_out_fine at _ (active q t _ _ Q T (holds (holder.RemoteRequested n))) = record { sound = active q t holder.Idle held.Idle Q T (holds holder.Idle); lawful = tt; tells = keeps (transfer_tie t); few = λ _. refl }
-  hold_timed_out_fine at _ (active q t _ _ Q T (holds holder.RemoteHolding)) = expired_fine at _ slot.Hold (active q t holder.RemoteHolding held.Idle Q T (holds holder.RemoteHolding))
+  hold_timed_out_fine at _ (active q t _ _ Q T (holds holder.Idle)) = expired_fine at _ slot.Hold (active q t holder.Idle None Q T (holds holder.Idle))
+  hold_timed_out_fine at _ (active q t _ _ Q T (holds holder.NearHolding)) = expired_fine at _ slot.Hold (active q t holder.NearHolding None Q T (holds holder.NearHolding))
+  hold_timed_out_fine at _ (active q t _ _ Q T (holds (holder.RemoteRequested n))) = record { sound = active q t holder.Idle None Q T (holds holder.Idle); lawful = tt; tells = keeps (transfer_tie t); few = λ _. refl }
+  hold_timed_out_fine at _ (active q t _ _ Q T (holds holder.RemoteHolding)) = expired_fine at _ slot.Hold (active q t holder.RemoteHolding None Q T (holds holder.RemoteHolding))
   hold_timed_out_fine at _ (active q t _ _ Q T (holds (holder.RetrieveRequested n))) =
-      lost_fine at (leg phase.Active q t (holder.RetrieveRequested n) held.Idle) _ (named.Hold cause.Timeout) (release_lawful at)
+      lost_fine at (leg phase.Active q t (holder.RetrieveRequested n) None) _ (named.Hold cause.Timeout) (release_lawful at)
   hold_timed_out_fine at _ (active q t _ d Q T (is_held _)) = expired_fine at _ slot.Hold (active q t holder.Idle d Q T (is_held d))
 
   pub timed_out_fine : (at : Place) (l : Leg) (k : Slot) → Sound l → Fine Other at l (timed_out l at k)

@@ -10,11 +10,10 @@ use Rattle.leg.specs.declared.record.Transfer.{Transfer}
 use Rattle.leg.specs.declared.record.Transfer.TheVariants as transfer
 use Rattle.leg.specs.declared.record.Holder.{Holder}
 use Rattle.leg.specs.declared.record.Holder.TheVariants as holder
-use Rattle.leg.specs.declared.record.Held.{Held}
-use Rattle.leg.specs.declared.record.Held.TheVariants as held
+use Rattle.leg.specs.declared.record.HoldKind.{HoldKind}
+use Rattle.leg.specs.declared.record.HoldKind.TheVariants as hold
 use Rattle.leg.specs.declared.record.Leg.{Leg}
 use Rattle.leg.specs.declared.reaction.Tell.{Tell}
-use Rattle.leg.specs.declared.reaction.Tell.TheVariants as tell
 use Rattle.leg.specs.declared.reaction.Word.{Word}
 use Rattle.leg.specs.declared.reaction.Word.TheVariants as word
 use Rattle.leg.specs.declared.reaction.Slot.{Slot}
@@ -63,13 +62,13 @@ with_holder_lem _ h free e f = absurd (false≢true e)
 with_holder_lem _ h (calling q n p Q) e f = absurd (false≢true e)
 with_holder_lem _ h (ringing q o Q O) e f = absurd (false≢true e)
 with_holder_lem _ h (alerting q Q) e f = absurd (false≢true e)
-with_holder_lem _ h (active q t _ _ Q T (holds x)) e f = active q t h held.Idle Q T (holds h)
-with_holder_lem _ h (active q t _ held.Idle Q T (is_held _)) e f = active q t h held.Idle Q T (holds h)
-with_holder_lem _ h (active q t _ held.Near Q T (is_held _)) e f = absurd (false≢true f)
-with_holder_lem _ h (active q t _ held.Remote Q T (is_held _)) e f = absurd (false≢true f)
+with_holder_lem _ h (active q t _ _ Q T (holds x)) e f = active q t h None Q T (holds h)
+with_holder_lem _ h (active q t _ None Q T (is_held _)) e f = active q t h None Q T (holds h)
+with_holder_lem _ h (active q t _ (Some hold.Near) Q T (is_held _)) e f = absurd (false≢true f)
+with_holder_lem _ h (active q t _ (Some hold.Remote) Q T (is_held _)) e f = absurd (false≢true f)
 
 -- one that does not hold may be held
-pub with_held_lem : (l : Leg) (d : Held) → Sound l → is_active l ≡ true → holds_none l ≡ true → Sound (with_held l d)
+pub with_held_lem : (l : Leg) (d : Option HoldKind) → Sound l → is_active l ≡ true → holds_none l ≡ true → Sound (with_held l d)
 with_held_lem _ d free e f = absurd (false≢true e)
 with_held_lem _ d (calling q n p Q) e f = absurd (false≢true e)
 with_held_lem _ d (ringing q o Q O) e f = absurd (false≢true e)
@@ -87,22 +86,22 @@ with_holder_again _ h free e = absurd (false≢true (sym e))
 with_holder_again _ h (calling q n p Q) e = absurd (false≢true (sym e))
 with_holder_again _ h (ringing q o Q O) e = absurd (false≢true (sym e))
 with_holder_again _ h (alerting q Q) e = absurd (false≢true (sym e))
-with_holder_again _ h (active q t _ _ Q T (holds x)) e = active q t h held.Idle Q T (holds h)
+with_holder_again _ h (active q t _ _ Q T (holds x)) e = active q t h None Q T (holds h)
 with_holder_again _ h (active q t _ _ Q T (is_held x)) e = absurd (false≢true (sym e))
 
 -- one that is held may be fetched back
-pub with_held_idle : (l : Leg) → Sound l → Sound (with_held l held.Idle)
+pub with_held_idle : (l : Leg) → Sound l → Sound (with_held l None)
 with_held_idle _ free = free
 with_held_idle _ (calling q n p Q) = calling q n p Q
 with_held_idle _ (ringing q o Q O) = ringing q o Q O
 with_held_idle _ (alerting q Q) = alerting q Q
-with_held_idle _ (active q t h _ Q T (holds x)) = active q t h held.Idle Q T (holds h)
-with_held_idle _ (active q t _ _ Q T (is_held x)) = active q t holder.Idle held.Idle Q T (is_held held.Idle)
+with_held_idle _ (active q t h _ Q T (holds x)) = active q t h None Q T (holds h)
+with_held_idle _ (active q t _ _ Q T (is_held x)) = active q t holder.Idle None Q T (is_held None)
 
 abbrev pub idle_holder : Holder → Bool
 idle_holder h = elim h [ holder.Idle ↦ true | holder.NearHolding ↦ false | holder.RemoteRequested _ ↦ false | holder.RemoteHolding ↦ false | holder.RetrieveRequested _ ↦ false ]
 
-pub held_here_lem : (l : Leg) (d : Held) → Sound l → (is_active l && is_unheld l) ≡ true → Sound (with_held l d)
+pub held_here_lem : (l : Leg) (d : Option HoldKind) → Sound l → (is_active l && is_unheld l) ≡ true → Sound (with_held l d)
 held_here_lem l d S e = with_held_lem l d S (both (is_active l) (is_unheld l) e).0 (both (holds_none l) (is_held_not l) (both (is_active l) (is_unheld l) e).1).0
 
 idle_none : (t : Transfer) → when_idle t true false ≡ true → transfer_tie t ≡ None
@@ -127,13 +126,13 @@ module _ {A : Type 0} where
   one_right (Some _) = refl
 
 -- a leg that is bound has no request of its own on the transfer timer
-bound_few : (b : Bond) (h : Holder) (k : Named) → is_two (last_ends (leg phase.Free 0 (transfer.Bound b) h held.Idle) k) ≡ false
-bound_few b h named.Neither = one_left (request_end (hold_request (leg phase.Free 0 (transfer.Bound b) h held.Idle)) cause.Cleared)
-bound_few b h (named.Transfer c) = one_left (request_end (hold_request (leg phase.Free 0 (transfer.Bound b) h held.Idle)) cause.Cleared)
-bound_few b h (named.Hold c) = one_right (request_end (hold_request (leg phase.Free 0 (transfer.Bound b) h held.Idle)) c)
+bound_few : (b : Bond) (h : Holder) (k : Named) → is_two (last_ends (leg phase.Free 0 (transfer.Bound b) h None) k) ≡ false
+bound_few b h named.Neither = one_left (request_end (hold_request (leg phase.Free 0 (transfer.Bound b) h None)) cause.Cleared)
+bound_few b h (named.Transfer c) = one_left (request_end (hold_request (leg phase.Free 0 (transfer.Bound b) h None)) cause.Cleared)
+bound_few b h (named.Hold c) = one_right (request_end (hold_request (leg phase.Free 0 (transfer.Bound b) h None)) c)
 
 -- where the partner of a leg that ends may name an end, this leg names one at most
-lost_few : (t : Transfer) (h : Holder) (k : Named) → end_follows (transfer_tie t) (tell_to (partner_of (leg phase.Free 0 t h held.Idle)) word.Lost) ≡ true → is_two (last_ends (leg phase.Free 0 t h held.Idle) k) ≡ false
+lost_few : (t : Transfer) (h : Holder) (k : Named) → end_follows (transfer_tie t) (tell_to (partner_of (leg phase.Free 0 t h None)) word.Lost) ≡ true → is_two (last_ends (leg phase.Free 0 t h None) k) ≡ false
 lost_few transfer.Idle h k e = absurd (false≢true e)
 lost_few (transfer.AwaitIdentify _ _) h k e = absurd (false≢true e)
 lost_few (transfer.AwaitInitiate _ None) h k e = absurd (false≢true e)
@@ -153,17 +152,17 @@ part_few t (Some s) = refl
 module _ {Other : Place → Word → Bool} where
   pub acting_fine : (at : Place) (l k : Leg) (m : Option Message) (n : Note) → Sound k → LawfulIf m → tie_of k ≡ tie_of l → Fine Other at l (acting k m n)
   acting_fine at l k m n S L e =
-      record { sound = S; lawful = L; tells = subst (λ (t : Option Tie). Tells Other at (tie_of l) tell.Nobody t) (sym e) (keeps (tie_of l)); few = λ _. refl }
+      record { sound = S; lawful = L; tells = subst (λ (t : Option Tie). Tells Other at (tie_of l) None t) (sym e) (keeps (tie_of l)); few = λ _. refl }
 
   pub strayed_fine : (at : Place) (l : Leg) → Sound l → Fine Other at l (strayed l)
   strayed_fine at l S = record { sound = S; lawful = tt; tells = keeps (tie_of l); few = λ _. refl }
 
   -- a leg without a tie, that tells nobody and has none
-  pub keeps_none : (at : Place) (l : Leg) → tie_of l ≡ None → Tells Other at (tie_of l) tell.Nobody None
-  keeps_none at l e = subst (λ (t : Option Tie). Tells Other at t tell.Nobody None) (sym e) (keeps None)
+  pub keeps_none : (at : Place) (l : Leg) → tie_of l ≡ None → Tells Other at (tie_of l) None None
+  keeps_none at l e = subst (λ (t : Option Tie). Tells Other at t None None) (sym e) (keeps None)
 
   -- the partner of a leg that ends is told so
-  lost_in_lem : (at : Place) (t : Transfer) → Tells Other at (transfer_tie t) (tell_to (partner_of (leg phase.Free 0 t holder.Idle held.Idle)) word.Lost) None
+  lost_in_lem : (at : Place) (t : Transfer) → Tells Other at (transfer_tie t) (tell_to (partner_of (leg phase.Free 0 t holder.Idle None)) word.Lost) None
   lost_in_lem at transfer.Idle = keeps None
   lost_in_lem at (transfer.AwaitIdentify _ p) = loses (Tie.identifies p)
   lost_in_lem at (transfer.AwaitInitiate _ None) = keeps None
@@ -175,7 +174,7 @@ module _ {Other : Place → Word → Bool} where
   lost_in_lem at (transfer.Bound (bond.Consulted p)) = loses (Tie.consulted p)
   lost_in_lem at (transfer.Bound (bond.Placing n o)) = loses (Tie.placing n)
 
-  pub leaving_fine : (at : Place) (l : Leg) (m : Option Message) (k : Named) (w : Tell) → LawfulIf m → Tells Other at (tie_of l) w None → end_follows (tie_of l) w ≡ false → Fine Other at l (leaving l m k w)
+  pub leaving_fine : (at : Place) (l : Leg) (m : Option Message) (k : Named) (w : Option Tell) → LawfulIf m → Tells Other at (tie_of l) w None → end_follows (tie_of l) w ≡ false → Fine Other at l (leaving l m k w)
   leaving_fine at l m k w L T f = record { sound = free; lawful = L; tells = T; few = λ e. absurd (false≢true (sym f ∙ e)) }
 
   pub lost_fine : (at : Place) (l : Leg) (m : Option Message) (k : Named) → LawfulIf m → Fine Other at l (leaving l m k (tell_lost l))
@@ -195,7 +194,7 @@ module _ {Other : Place → Word → Bool} where
   expired_fine at l slot.Hold S = record { sound = S; lawful = tt; tells = keeps (tie_of l); few = λ _. refl }
 
   -- what is told fits the tie, the transfer state being known
-  pub tied : (at : Place) (l : Leg) (t : Transfer) (w : Tell) (k : Option Tie) → l.transfer ≡ t → Tells Other at (transfer_tie t) w k → Tells Other at (tie_of l) w k
+  pub tied : (at : Place) (l : Leg) (t : Transfer) (w : Option Tell) (k : Option Tie) → l.transfer ≡ t → Tells Other at (transfer_tie t) w k → Tells Other at (tie_of l) w k
   tied at l t w k e T = subst (λ (x : Transfer). Tells Other at (transfer_tie x) w k) (sym e) T
 
   pub unawaited_fine : (at : Place) (l : Leg) (n : Note) → Sound l → is_awaiting_setup l ≡ true → Fine Other at l (unawaited l n)

@@ -13,7 +13,6 @@ use Rattle.leg.specs.declared.record.Bond.TheVariants as bond
 use Rattle.leg.specs.declared.record.Transfer.{Transfer}
 use Rattle.leg.specs.declared.record.Transfer.TheVariants as transfer
 use Rattle.leg.specs.declared.record.Leg.{Leg}
-use Rattle.leg.specs.declared.reaction.Tell.TheVariants as tell
 use Rattle.leg.specs.declared.reaction.Word.TheVariants as word
 use Rattle.leg.specs.declared.reaction.Named.{Named}
 use Rattle.leg.specs.declared.reaction.Named.TheVariants as named
@@ -55,7 +54,7 @@ abandon_lawful at = notice_lawful at operation.CallTransferAbandon refl refl ref
 parting_fine : (l : Leg) (m : Option Message) → Sound l → is_active l ≡ true → LawfulIf m → FineTold (parting l m)
 parting_fine l m S e L = record { sound = with_transfer_lem l transfer.Idle S e idle; lawful = L; nobody = refl }
 
-leaves_fine : (l : Leg) (m : Option Message) (k : Named) → LawfulIf m → FineTold (leaving l m k tell.Nobody)
+leaves_fine : (l : Leg) (m : Option Message) (k : Named) → LawfulIf m → FineTold (leaving l m k None)
 leaves_fine l m k L = record { sound = free; lawful = L; nobody = refl }
 
 -- an active leg that is bound

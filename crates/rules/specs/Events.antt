@@ -1,5 +1,5 @@
 -- What holds of a leg at every event.
-use Rattle.std.specs.Prelude.{◌≡◌, ℕ, Bool, true, false, Some, Ok, Err, Option, Result}
+use Rattle.std.specs.Prelude.{◌≡◌, ℕ, Bool, true, false, Some, Ok, Err, Option, Result, None}
 use Rattle.message.specs.declared.codes.Carrier.TheVariants as carrier
 use Rattle.message.specs.Format.{Lawful}
 use Rattle.machine.specs.declared.event.Event.{Event}
@@ -10,7 +10,6 @@ use Rattle.leg.specs.declared.codes.Refusal.{Refusal}
 use Rattle.leg.specs.declared.record.Leg.{Leg}
 use Rattle.leg.specs.declared.reaction.Word.{Word}
 use Rattle.leg.specs.declared.reaction.Word.TheVariants as word
-use Rattle.leg.specs.declared.reaction.Tell.TheVariants as tell
 use Rattle.leg.specs.declared.reaction.Reaction.{Reaction}
 use Rattle.leg.specs.Views.{in_use, is_active, is_idle}
 use Rattle.machine.specs.Told.{told_word}
@@ -64,7 +63,7 @@ ReadyFor l w = elim w [
 pub record FineTold (r : Reaction) : Type 0 where
   pub sound : Sound r.leg
   pub lawful : LawfulIf r.sent
-  pub nobody : r.tell ≡ tell.Nobody
+  pub nobody : r.tell ≡ None
 
 abbrev pub FineToldIf : Result Reaction Refusal → Type 0
 FineToldIf d = elim d [ Err _ ↦ Unit {0} | Ok r ↦ FineTold r ]

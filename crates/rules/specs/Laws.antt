@@ -1,11 +1,11 @@
 -- What holds of every list of calls on a fresh board.
-use Rattle.std.specs.Prelude.{◌≡◌, ℕ, ◌<◌, ◌≤◌, List, ◌++◌, Some, None, Option}
+use Rattle.std.specs.Prelude.{◌≡◌, ℕ, ◌<◌, ◌≤◌, List, ◌++◌, Some, None, Option, Ok, Err}
 use Rattle.std.specs.List.{AllByRecursion}
 use Rattle.message.specs.Format.{Lawful}
 use Rattle.leg.specs.declared.codes.Refusal.{Refusal}
 use Rattle.timers.specs.Order.{First}
-use Rattle.rules.specs.declared.answer.Answer.{Answer}
-use Rattle.rules.specs.declared.answer.Answer.TheVariants as answer
+use Rattle.rules.specs.declared.answer.Outcome.TheVariants as outcome
+use Rattle.rules.specs.Answers.{Answer}
 use Rattle.rules.specs.declared.call.Call.{Call}
 use Rattle.rules.specs.declared.plan.Plan.{Plan}
 use Rattle.rules.specs.declared.settings.Settings.{Settings}
@@ -21,7 +21,7 @@ AlwaysConsistent = (settings : Settings) (capacity : ℕ) (calls : List Call) �
 
 -- what an answer names as sent is lawful, and so is what was taken: its row reads back as the same message
 abbrev pub LawfulAnswer : Answer → Type 0
-LawfulAnswer a = elim a [ answer.Refused _ ↦ Unit {0} | answer.Done _ sent _ ↦ AllByRecursion Lawful (listed sent) | answer.Taken m ↦ Lawful m | answer.Shown _ ↦ Unit {0} ]
+LawfulAnswer a = elim a [ Err _ ↦ Unit {0} | Ok o ↦ elim o [ outcome.Done d ↦ AllByRecursion Lawful (listed d.sent) | outcome.Taken m ↦ Lawful m | outcome.Shown _ ↦ Unit {0} ] ]
 
 abbrev pub AlwaysLawful : Type 0
 AlwaysLawful = (settings : Settings) (capacity : ℕ) (calls : List Call) → AllByRecursion LawfulAnswer (runs (fresh settings capacity) calls).0
@@ -35,7 +35,7 @@ EndsAllNamed =
 
 -- a refused call leaves the state as it was
 abbrev pub RefusedChangesNothing : Type 0
-RefusedChangesNothing = (s : State) (c : Call) (why : Refusal) → (step s c).0 ≡ answer.Refused why → (step s c).1 ≡ s
+RefusedChangesNothing = (s : State) (c : Call) (why : Refusal) → (step s c).0 ≡ Err why → (step s c).1 ≡ s
 
 -- the first timer of a tick is first by what first means: it runs, and no running one comes before it
 abbrev pub FirstIsFirst : Type 0

@@ -1,6 +1,7 @@
 pub mod Sound
 pub mod Events
 pub mod Answers
+pub mod Reports
 pub mod Firsts
 pub mod States
 pub mod Plans

@@ -12,7 +12,6 @@ use Rattle.leg.specs.declared.record.Leg.{Leg}
 use Rattle.leg.specs.declared.reaction.Reaction.{Reaction}
 use Rattle.leg.specs.declared.reaction.Slot.{Slot}
 use Rattle.leg.specs.declared.reaction.Slot.TheVariants as slot
-use Rattle.leg.specs.declared.reaction.Tell.TheVariants as tell
 use Rattle.leg.specs.declared.reaction.TimerChange.{TimerChange}
 use Rattle.leg.specs.declared.reaction.TimerChange.TheVariants as change
 use Rattle.leg.specs.declared.reaction.UpToTwo.{UpToTwo}
@@ -21,22 +20,24 @@ use Rattle.leg.specs.declared.values.TimerValues.{TimerValues}
 use Rattle.leg.specs.Reactions.{up_to_two}
 use Rattle.machine.specs.Told.{told_word}
 use Rattle.leg.specs.Values.{value_of}
-use Rattle.rules.specs.declared.answer.Answer.{Answer}
-use Rattle.rules.specs.declared.answer.Answer.TheVariants as answer
-use Rattle.rules.specs.declared.plan.Other.{Other}
-use Rattle.rules.specs.declared.plan.Other.TheVariants as other
+use Rattle.rules.specs.Answers.{Answer, did}
+use Rattle.rules.specs.declared.plan.Told.{Told}
 use Rattle.rules.specs.declared.plan.Plan.{Plan}
 use Rattle.rules.specs.States.{State, leg_at, free_places}
 
+-- a leg is told, and reacts
+abbrev pub also : Place → Reaction → Option Told
+also q x = Some (record { to = q; reaction = x })
+
 -- the reaction of the leg that is told
 abbrev pub telling : Place → Reaction → Place → Result Reaction Refusal → Result Plan Refusal
-telling p r q told = elim told [ Err why ↦ Err why | Ok x ↦ Ok (record { place = p; own = r; other = other.Told q x }) ]
+telling p r q told = elim told [ Err why ↦ Err why | Ok x ↦ Ok (record { place = p; own = r; other = also q x }) ]
 
 -- A leg reacts, and then the leg that it tells, if it tells one. Both are decided from the records as they were.
 abbrev pub planned : State → Place → Reaction → Result Plan Refusal
 planned s p r = elim r.tell [
-  | tell.Nobody ↦ Ok (record { place = p; own = r; other = other.Nobody })
-  | tell.Leg q w ↦ telling p r q (told_word (leg_at s q) q w s.next)
+  | None ↦ Ok (record { place = p; own = r; other = None })
+  | Some t ↦ telling p r t.to (told_word (leg_at s t.to) t.to t.word s.next)
 ]
 
 -- what the leg refuses is refused
@@ -44,11 +45,11 @@ abbrev pub reacting : State → Place → Result Reaction Refusal → Result Pla
 reacting s p d = elim d [ Err why ↦ Err why | Ok r ↦ planned s p r ]
 
 -- the told leg's part of a plan
-abbrev pub other_sent : Other → Option Message
-other_sent o = elim o [ other.Nobody ↦ None | other.Told _ r ↦ r.sent ]
+abbrev pub other_sent : Option Told → Option Message
+other_sent o = elim o [ None ↦ None | Some t ↦ t.reaction.sent ]
 
-abbrev pub other_ends : Other → UpToTwo Ended
-other_ends o = elim o [ other.Nobody ↦ few.Zero | other.Told _ r ↦ r.ends ]
+abbrev pub other_ends : Option Told → UpToTwo Ended
+other_ends o = elim o [ None ↦ few.Zero | Some t ↦ t.reaction.ends ]
 
 module _ {A : Type 0} where
   -- two and no more: that none is left out is a law
@@ -99,14 +100,14 @@ timed f k c now values = elim c [
 abbrev pub timed_leg : (ℕ → Option ℕ) → Place → Reaction → ℕ → TimerValues → ℕ → Option ℕ
 timed_leg f p r now values = timed (timed f (key_of p slot.Transfer) r.transfer_timer now values) (key_of p slot.Hold) r.hold_timer now values
 
-abbrev pub timed_other : (ℕ → Option ℕ) → Other → ℕ → TimerValues → ℕ → Option ℕ
-timed_other f o now values = elim o [ other.Nobody ↦ f | other.Told q r ↦ timed_leg f q r now values ]
+abbrev pub timed_other : (ℕ → Option ℕ) → Option Told → ℕ → TimerValues → ℕ → Option ℕ
+timed_other f o now values = elim o [ None ↦ f | Some t ↦ timed_leg f t.to t.reaction now values ]
 
 abbrev pub put_leg : List Leg → Place → Leg → List Leg
 put_leg legs p l = slice_set legs p.index l
 
-abbrev pub put_other : List Leg → Other → List Leg
-put_other legs o = elim o [ other.Nobody ↦ legs | other.Told q r ↦ put_leg legs q r.leg ]
+abbrev pub put_other : List Leg → Option Told → List Leg
+put_other legs o = elim o [ None ↦ legs | Some t ↦ put_leg legs t.to t.reaction.leg ]
 
 -- The state after a plan at this time: the leg's part, then the other's.
 abbrev pub after : State → ℕ → Plan → State
@@ -122,12 +123,12 @@ after s now p =
     }
 
 abbrev pub done_by : Plan → Answer
-done_by p = answer.Done p.own.note (plan_sent p) (plan_ends p)
+done_by p = did p.own.note (plan_sent p) (plan_ends p)
 
 -- The last stage: a plan that sends more messages than there are free places is refused. Else it is carried out.
 abbrev pub carried : State → ℕ → Plan → Answer × State
-carried s now p = cond (nat_lt (free_places s) (length (listed (plan_sent p)))) (answer.Refused refusal.QueueFull, s) (done_by p, after s now p)
+carried s now p = cond (nat_lt (free_places s) (length (listed (plan_sent p)))) (Err refusal.QueueFull, s) (done_by p, after s now p)
 
 -- a refusal changes nothing
 abbrev pub settled : State → ℕ → Result Plan Refusal → Answer × State
-settled s now d = elim d [ Err why ↦ (answer.Refused why, s) | Ok p ↦ carried s now p ]
+settled s now d = elim d [ Err why ↦ (Err why, s) | Ok p ↦ carried s now p ]

@@ -1,7 +1,7 @@
 -- Calls one after another.
 use Rattle.std.specs.Prelude.{List, [], ◌∷◌}
-use Rattle.rules.specs.declared.answer.Answer.{Answer}
 use Rattle.rules.specs.declared.call.Call.{Call}
+use Rattle.rules.specs.Answers.{Answer}
 use Rattle.rules.specs.States.{State}
 use Rattle.rules.specs.Steps.{step}
 

@@ -13,11 +13,10 @@ use Rattle.leg.specs.declared.record.Transfer.{Transfer}
 use Rattle.leg.specs.declared.record.Transfer.TheVariants as transfer
 use Rattle.leg.specs.declared.record.Holder.{Holder}
 use Rattle.leg.specs.declared.record.Holder.TheVariants as holder
-use Rattle.leg.specs.declared.record.Held.{Held}
-use Rattle.leg.specs.declared.record.Held.TheVariants as held
+use Rattle.leg.specs.declared.record.HoldKind.{HoldKind}
 use Rattle.leg.specs.declared.record.Leg.{Leg}
 use Rattle.leg.specs.declared.reaction.Tell.{Tell}
-use Rattle.leg.specs.declared.reaction.Tell.TheVariants as tell
+use Rattle.leg.specs.Tells.{tell_leg}
 use Rattle.leg.specs.declared.reaction.UpToTwo.{UpToTwo}
 use Rattle.leg.specs.declared.reaction.UpToTwo.TheVariants as few
 use Rattle.leg.specs.declared.reaction.Word.{Word}
@@ -42,7 +41,7 @@ pub record OwedInRange (o : Owed) : Type 0 where
   pub identity : InIdentity o.identity
   pub address : InWord o.address
 
-abbrev pub leg : Phase → ℕ → Transfer → Holder → Held → Leg
+abbrev pub leg : Phase → ℕ → Transfer → Holder → Option HoldKind → Leg
 leg ph q t h d = record { phase = ph; peer = q; transfer = t; holder = h; held = d }
 
 pub data SoundBond : Bond → Type 0 where
@@ -60,17 +59,17 @@ pub data SoundTransfer : Transfer → Type 0 where
   bound : (b : Bond) → SoundBond b → SoundTransfer (transfer.Bound b)
 
 -- an end that holds is not held, and one that is held does not hold
-pub data SoundHold : Holder → Held → Type 0 where
-  holds : (h : Holder) → SoundHold h held.Idle
-  is_held : (d : Held) → SoundHold holder.Idle d
+pub data SoundHold : Holder → Option HoldKind → Type 0 where
+  holds : (h : Holder) → SoundHold h None
+  is_held : (d : Option HoldKind) → SoundHold holder.Idle d
 
 -- The records that occur. A leg that calls awaits the answer to its set-up, and no other leg does; a leg that rings or alerts is otherwise idle; hold states stand on active legs only.
 pub data Sound : Leg → Type 0 where
   free : Sound free_leg
   calling : (q n : ℕ) (p : Place) → InWord q → Sound (calling_leg q n p)
-  ringing : (q : ℕ) (o : Owed) → InWord q → OwedInRange o → Sound (leg (phase.Ringing o) q transfer.Idle holder.Idle held.Idle)
-  alerting : (q : ℕ) → InWord q → Sound (leg phase.Alerting q transfer.Idle holder.Idle held.Idle)
-  active : (q : ℕ) (t : Transfer) (h : Holder) (d : Held) → InWord q → SoundTransfer t → SoundHold h d → Sound (leg phase.Active q t h d)
+  ringing : (q : ℕ) (o : Owed) → InWord q → OwedInRange o → Sound (leg (phase.Ringing o) q transfer.Idle holder.Idle None)
+  alerting : (q : ℕ) → InWord q → Sound (leg phase.Alerting q transfer.Idle holder.Idle None)
+  active : (q : ℕ) (t : Transfer) (h : Holder) (d : Option HoldKind) → InWord q → SoundTransfer t → SoundHold h d → Sound (leg phase.Active q t h d)
 
 -- How a leg is tied to its partner: the first three wait for a reply, the other three are bound to one that waits.
 pub data Tie : Type 0 where
@@ -119,17 +118,17 @@ returned (Tie.consulted _) at = initiates at
 returned (Tie.placing _) at = sets_up at
 
 -- What a leg may have another do, by its tie before and after. A leg that tells nobody keeps its tie. Its partner is told by what the tie is; which other legs may be told something is for the board to say.
-pub data Tells (Other : Place → Word → Bool) (at : Place) : Option Tie → Tell → Option Tie → Type 0 where
-  keeps : (t : Option Tie) → Tells Other at t tell.Nobody t
-  consults : (p : Place) → (Other p (word.Consult at) ≡ true) → Tells Other at None (tell.Leg p (word.Consult at)) (Some (identifies p))
-  places : (p : Place) → (Other p (word.Place at) ≡ true) → Tells Other at None (tell.Leg p (word.Place at)) (Some (sets_up p))
-  meets : (s : Place) → (Other s word.Met ≡ true) → Tells Other at None (tell.Leg s word.Met) None
-  hands : (p : Place) (i a : ℕ) → InIdentity i → InWord a → Tells Other at (Some (identifies p)) (tell.Leg p (word.Initiate i a)) (Some (Tie.consulted p))
-  parts : (p : Place) → Tells Other at (Some (identifies p)) (tell.Leg p word.Part) None
-  releases : (s : Place) → Tells Other at (Some (initiates s)) (tell.Leg s word.Part) None
-  abandons : (s : Place) → Tells Other at (Some (initiates s)) (tell.Leg s word.Abandon) None
-  completes : (p : Place) → Tells Other at (Some (sets_up p)) (tell.Leg p word.Complete) None
-  loses : (t : Tie) → Tells Other at (Some t) (tell.Leg (tied_to t) word.Lost) None
+pub data Tells (Other : Place → Word → Bool) (at : Place) : Option Tie → Option Tell → Option Tie → Type 0 where
+  keeps : (t : Option Tie) → Tells Other at t None t
+  consults : (p : Place) → (Other p (word.Consult at) ≡ true) → Tells Other at None (tell_leg p (word.Consult at)) (Some (identifies p))
+  places : (p : Place) → (Other p (word.Place at) ≡ true) → Tells Other at None (tell_leg p (word.Place at)) (Some (sets_up p))
+  meets : (s : Place) → (Other s word.Met ≡ true) → Tells Other at None (tell_leg s word.Met) None
+  hands : (p : Place) (i a : ℕ) → InIdentity i → InWord a → Tells Other at (Some (identifies p)) (tell_leg p (word.Initiate i a)) (Some (Tie.consulted p))
+  parts : (p : Place) → Tells Other at (Some (identifies p)) (tell_leg p word.Part) None
+  releases : (s : Place) → Tells Other at (Some (initiates s)) (tell_leg s word.Part) None
+  abandons : (s : Place) → Tells Other at (Some (initiates s)) (tell_leg s word.Abandon) None
+  completes : (p : Place) → Tells Other at (Some (sets_up p)) (tell_leg p word.Complete) None
+  loses : (t : Tie) → Tells Other at (Some t) (tell_leg (tied_to t) word.Lost) None
 
 -- a leg that is bound to one that asks or calls leaves the end of that request to it
 abbrev pub tie_ends : Option Tie → Bool
@@ -142,10 +141,10 @@ tie_ends (Some (Tie.consulted _)) = false
 tie_ends (Some (Tie.placing _)) = true
 
 -- whether the leg that is told may name an end of its own
-abbrev pub end_follows : Option Tie → Tell → Bool
+abbrev pub end_follows : Option Tie → Option Tell → Bool
 end_follows t w = elim w [
-  | tell.Nobody ↦ false
-  | tell.Leg _ v ↦ elim v [
+  | None ↦ false
+  | Some v ↦ elim v.word [
     | word.Consult _ ↦ false
     | word.Place _ ↦ false
     | word.Initiate _ _ ↦ false

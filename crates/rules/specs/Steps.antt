@@ -20,8 +20,7 @@ use Rattle.machine.specs.Invokes.{set_up}
 use Rattle.machine.specs.Replies.{heard_on}
 use Rattle.machine.specs.Timeouts.{timed_out}
 use Rattle.timers.specs.declared.meaning.Due.{Due}
-use Rattle.rules.specs.declared.answer.Answer.{Answer}
-use Rattle.rules.specs.declared.answer.Answer.TheVariants as answer
+use Rattle.rules.specs.Answers.{Answer, did, taken, shown}
 use Rattle.rules.specs.declared.call.Call.{Call}
 use Rattle.rules.specs.declared.call.Call.TheVariants as call
 use Rattle.rules.specs.declared.plan.Plan.{Plan}
@@ -108,7 +107,7 @@ abbrev pub timeout_plan : State → Due → Result Plan Refusal
 timeout_plan s d = at_place (d.key / 2) (λ p. planned s p (timed_out (leg_at s p) p (slot_of d.key)))
 
 abbrev pub saying : Note → Answer
-saying n = answer.Done n few.Zero few.Zero
+saying n = did n few.Zero few.Zero
 
 abbrev pub at_time : State → ℕ → State
 at_time s t =
@@ -119,17 +118,17 @@ abbrev pub tick_to : State → ℕ → Answer × State
 tick_to s t = elim (due_by t s.deadlines) [ None ↦ (saying note.NoneDue, at_time s t) | Some d ↦ settled s t (timeout_plan s d) ]
 
 abbrev pub tick_step : State → ℕ → Answer × State
-tick_step s t = cond (nat_le s.time t && nat_le t (2 ^ 40)) (tick_to s t) (answer.Refused refusal.BadTime, s)
+tick_step s t = cond (nat_le s.time t && nat_le t (2 ^ 40)) (tick_to s t) (Err refusal.BadTime, s)
 
 abbrev pub with_waiting : State → List Message → State
 with_waiting s w =
     record { settings = s.settings; time = s.time; next = s.next; legs = s.legs; deadlines = s.deadlines; waiting = w; capacity = s.capacity }
 
 abbrev pub take_step : State → Answer × State
-take_step s = elim s.waiting [ [] ↦ (saying note.QueueEmpty, s) | m ∷ ms ↦ (answer.Taken m, with_waiting s ms) ]
+take_step s = elim s.waiting [ [] ↦ (saying note.QueueEmpty, s) | m ∷ ms ↦ (taken m, with_waiting s ms) ]
 
 abbrev pub look_step : State → ℕ → Answer × State
-look_step s leg = elim (place_of leg) [ None ↦ (answer.Refused refusal.NoSuchLeg, s) | Some p ↦ (answer.Shown (leg_at s p), s) ]
+look_step s leg = elim (place_of leg) [ None ↦ (Err refusal.NoSuchLeg, s) | Some p ↦ (shown (leg_at s p), s) ]
 
 -- the answer to a call, and the state after it
 abbrev pub step : State → Call → Answer × State

@@ -1,5 +1,5 @@
 -- The station of the worked cases, and how a case is said.
-use Rattle.std.specs.Prelude.{◌≡◌, ℕ, List, Some, None, Option, slice_index_or}
+use Rattle.std.specs.Prelude.{◌≡◌, ℕ, List, Some, None, Option, slice_index_or, Err}
 use Rattle.std.proofs.Common.{lit≤}
 use Rattle.message.specs.declared.codes.Carrier.{Carrier}
 use Rattle.message.specs.declared.codes.Carrier.TheVariants.{Facility, ReleaseComplete}
@@ -18,8 +18,7 @@ use Rattle.leg.specs.declared.codes.Refusal.{Refusal}
 use Rattle.leg.specs.declared.record.Leg.{Leg}
 use Rattle.leg.specs.declared.reaction.UpToTwo.TheVariants as few
 use Rattle.leg.specs.Views.{free_leg}
-use Rattle.rules.specs.declared.answer.Answer.{Answer}
-use Rattle.rules.specs.declared.answer.Answer.TheVariants as answer
+use Rattle.rules.specs.Answers.{Answer, did}
 use Rattle.rules.specs.declared.call.Call.{Call}
 use Rattle.rules.specs.declared.call.Call.TheVariants as call
 use Rattle.rules.specs.declared.settings.Settings.{Settings}
@@ -83,7 +82,7 @@ abbrev pub abandon : ℕ → Message
 abandon l = with Facility Invoke CallTransferAbandon l 0 0 0
 
 abbrev pub noted : Note → Answer
-noted n = answer.Done n few.Zero few.Zero
+noted n = did n few.Zero few.Zero
 
 -- done, with nothing to say
 abbrev pub done : Answer
@@ -93,19 +92,19 @@ abbrev pub stray : Answer
 stray = noted note.Stray
 
 abbrev pub sends : Message → Answer
-sends m = answer.Done note.Done (few.One m) few.Zero
+sends m = did note.Done (few.One m) few.Zero
 
 abbrev pub sends_two : Message → Message → Answer
-sends_two m n = answer.Done note.Done (few.Two m n) few.Zero
+sends_two m n = did note.Done (few.Two m n) few.Zero
 
 abbrev pub end : ℕ → Cause → Ended
 end n c = record { number = n; cause = c }
 
 abbrev pub ends : ℕ → Cause → Answer
-ends n c = answer.Done note.Done few.Zero (few.One (end n c))
+ends n c = did note.Done few.Zero (few.One (end n c))
 
 abbrev pub sends_ends : Message → ℕ → Cause → Answer
-sends_ends m n c = answer.Done note.Done (few.One m) (few.One (end n c))
+sends_ends m n c = did note.Done (few.One m) (few.One (end n c))
 
 abbrev pub refused : Refusal → Answer
-refused r = answer.Refused r
+refused r = Err r

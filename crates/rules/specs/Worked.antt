@@ -17,13 +17,11 @@ use Rattle.leg.specs.declared.record.Phase.TheVariants as phase
 use Rattle.leg.specs.declared.record.Bond.TheVariants as bond
 use Rattle.leg.specs.declared.record.Transfer.TheVariants as transfer
 use Rattle.leg.specs.declared.record.Holder.TheVariants as holder
-use Rattle.leg.specs.declared.record.Held.TheVariants as held
 use Rattle.leg.specs.declared.record.HoldKind.TheVariants as hold
 use Rattle.leg.specs.declared.record.Leg.{Leg}
 use Rattle.leg.specs.declared.reaction.UpToTwo.TheVariants as few
 use Rattle.leg.specs.Views.{free_leg, with_phase, with_transfer, with_holder, with_held, active_leg}
-use Rattle.rules.specs.declared.answer.Answer.{Answer}
-use Rattle.rules.specs.declared.answer.Answer.TheVariants as answer
+use Rattle.rules.specs.Answers.{Answer, did, taken}
 use Rattle.rules.specs.declared.call.Call.{Call}
 use Rattle.rules.specs.declared.call.Call.TheVariants as call
 use Rattle.rules.specs.Traces.{answers_with, Answers, leg_after, timer_after, heard, with, with_error, release, abandon, noted, done, stray, sends, sends_two, end, ends, sends_ends, refused}
@@ -152,7 +150,7 @@ PrimaryLostConsulting =
 
 abbrev pub PrimaryLostInitiating : Type 0
 PrimaryLostInitiating =
-    (Answers (consult_identified ++ call.Clear 3 ∷ []) (identified_sent ++ answer.Done note.Done (few.Two (release 3) (abandon 4)) (few.One (end 2 cause.Cleared)) ∷ []))
+    (Answers (consult_identified ++ call.Clear 3 ∷ []) (identified_sent ++ did note.Done (few.Two (release 3) (abandon 4)) (few.One (end 2 cause.Cleared)) ∷ []))
     × (leg_after (consult_identified ++ call.Clear 3 ∷ []) 4 ≡ idle 400)
 
 -- the secondary is lost while the transfer is awaited, which goes on alone
@@ -201,7 +199,7 @@ abbrev placed_sent : List Answer
 placed_sent = asked_sent ++ sends (with Setup Invoke CallTransferSetup 4 1 77 200) ∷ []
 
 abbrev calling : Leg
-calling = record { phase = phase.Calling; peer = 400; transfer = transfer.AwaitSetupResponse 1 place3; holder = holder.Idle; held = held.Idle }
+calling = record { phase = phase.Calling; peer = 400; transfer = transfer.AwaitSetupResponse 1 place3; holder = holder.Idle; held = None }
 
 abbrev pub PlacedOn4 : Type 0
 PlacedOn4 =
@@ -232,7 +230,7 @@ placed_lapses = placed_on4 ++ call.Tick 25 ∷ []
 
 abbrev pub PlacedLapses : Type 0
 PlacedLapses =
-    (Answers placed_lapses (placed_sent ++ answer.Done note.Done (few.Two (release 4) (with_error Facility CallTransferInitiate 3 9 error.EstablishmentFailure)) (few.One (end 1 cause.Timeout)) ∷ []))
+    (Answers placed_lapses (placed_sent ++ did note.Done (few.Two (release 4) (with_error Facility CallTransferInitiate 3 9 error.EstablishmentFailure)) (few.One (end 1 cause.Timeout)) ∷ []))
     × (leg_after placed_lapses 3 ≡ idle 300)
     × (leg_after placed_lapses 4 ≡ free_leg)
     × (timer_after placed_lapses 8 ≡ None)
@@ -335,7 +333,7 @@ HoldGlare =
     (Answers (call.Open 3 300 ∷ call.Hold 3 hold.Remote ∷ heard (with Facility Invoke RemoteHold 3 8 0 0) ∷ [])
     (done ∷ sends (with Facility Invoke RemoteHold 3 1 0 0) ∷ sends (with_error Facility RemoteHold 3 8 error.SupplementaryServiceInteractionNotAllowed) ∷ []))
     × (Answers (call.Open 3 300 ∷ heard (with Facility Invoke RemoteHold 3 8 0 0) ∷ heard (with Facility Invoke RemoteHold 3 9 0 0) ∷ [])
-    (done ∷ answer.Done note.Held (few.One (with Facility Result RemoteHold 3 8 0 0)) few.Zero ∷ sends (with_error Facility RemoteHold 3 9 error.InvalidCallState) ∷ []))
+    (done ∷ did note.Held (few.One (with Facility Result RemoteHold 3 8 0 0)) few.Zero ∷ sends (with_error Facility RemoteHold 3 9 error.InvalidCallState) ∷ []))
 
 -- this end is held and fetched back by the far end
 abbrev pub held_here : List Call
@@ -344,8 +342,8 @@ held_here = call.Open 3 300 ∷ heard (with Facility Invoke RemoteHold 3 8 0 0) 
 abbrev pub HeldHere : Type 0
 HeldHere =
     (Answers held_here
-    (done ∷ answer.Done note.Held (few.One (with Facility Result RemoteHold 3 8 0 0)) few.Zero ∷ answer.Done note.Retrieved (few.One (with Facility Result RemoteRetrieve 3 9 0 0)) few.Zero ∷ []))
-    × (leg_after (call.Open 3 300 ∷ heard (with Facility Invoke RemoteHold 3 8 0 0) ∷ []) 3 ≡ with_held (idle 300) held.Remote)
+    (done ∷ did note.Held (few.One (with Facility Result RemoteHold 3 8 0 0)) few.Zero ∷ did note.Retrieved (few.One (with Facility Result RemoteRetrieve 3 9 0 0)) few.Zero ∷ []))
+    × (leg_after (call.Open 3 300 ∷ heard (with Facility Invoke RemoteHold 3 8 0 0) ∷ []) 3 ≡ with_held (idle 300) (Some hold.Remote))
     × (leg_after held_here 3 ≡ idle 300)
 
 -- hold at this end only tells the far end, and so does what the far end does at its own
@@ -366,7 +364,7 @@ TimeAndLegs =
 -- what was sent is taken in its order
 abbrev pub TakesInOrder : Type 0
 TakesInOrder =
-    Answers (consult_identified ++ call.Take ∷ call.Take ∷ call.Take ∷ []) (identified_sent ++ answer.Taken identify_on4 ∷ answer.Taken initiate_on3 ∷ noted note.QueueEmpty ∷ [])
+    Answers (consult_identified ++ call.Take ∷ call.Take ∷ call.Take ∷ []) (identified_sent ++ taken identify_on4 ∷ taken initiate_on3 ∷ noted note.QueueEmpty ∷ [])
 
 -- two timers that are due at once run out one at a call, the smaller key first: leg 3's transfer, then leg 4's hold
 abbrev pub OneTimerAtACall : Type 0

@@ -5,12 +5,13 @@ pub mod answer;
 pub mod call;
 pub mod laws;
 mod made;
-mod numbers;
 pub mod plan;
+pub mod report;
 pub mod settings;
 pub mod traces;
 
-pub use answer::Answer;
+pub use answer::{Answer, Done, Outcome};
 pub use call::Call;
-pub use plan::{Other, Plan};
+pub use plan::{Plan, Told};
+pub use report::Report;
 pub use settings::Settings;
