@@ -7,7 +7,7 @@ use Rattle.dump.specs.declared.lines.Form.{Form}
 use Rattle.dump.specs.declared.lines.Form.TheVariants as form
 use Rattle.dump.specs.declared.tally.Tally.{Tally}
 use Rattle.dump.specs.Hex.{hex_row, hex_text}
-use Rattle.dump.specs.Words.{words}
+use Rattle.message.specs.Words.{words}
 
 -- the k-th character from the end is c
 abbrev pub from_end : ℕ → ℕ → List ℕ → Bool
