@@ -19,7 +19,7 @@ use Rattle.message.proofs.Outcomes.{Outcome, length_wrong, no_carrier, no_kind, 
 use Rattle.message.proofs.Accepted.{numbered_has, among_named, error_small, error_named, word_is, zero_is}
 
 unless_fault : (o : Option ℕ) (m : Message) (i : ℕ) → fault i ≡ unless o m → o ≡ Some i
-unless_fault None m i e = let z : ◌≡◌ {A = ℕ} 0 1 = cc in absurd (omega arith)
+unless_fault None m i e = cc
 unless_fault (Some j) m i e = ap Some (same_fault j i (sym e))
 
 -- a fact of each place of a list, counted from n
@@ -29,9 +29,9 @@ Each P n (w ∷ ws) = P n w × Each P (suc n) ws
 
 -- where all is right up to i, the first wrong one is not i
 right_up_to : (ws : List Bool) (n i : ℕ) → Each (λ j w. j ≤ i → w ≡ false) n ws → first n ws ≡ Some i → ⊥
-right_up_to [] n i right e = let z : ◌≡◌ {A = ℕ} 0 1 = cc in omega arith
+right_up_to [] n i right e = cc
 right_up_to (true ∷ ws) n i right e =
-    let s : n ≡ i = cc in let f = right.0 (omega arith) in let z : ◌≡◌ {A = ℕ} 0 1 = cc in omega arith
+    let s : n ≡ i = cc in let f = right.0 (omega arith) in cc
 right_up_to (false ∷ ws) n i right e = right_up_to ws (suc n) i right.1 e
 
 end_after : (i : ℕ) → i < field_end i
@@ -76,7 +76,7 @@ fields_right bytes i m h same =
     )
 
 second_or_later : (ws : List Bool) (n i : ℕ) → first n ws ≡ Some i → n ≤ i
-second_or_later [] n i e = let z : ◌≡◌ {A = ℕ} 0 1 = cc in absurd (omega arith)
+second_or_later [] n i e = cc
 second_or_later (true ∷ ws) n i e = let s : n ≡ i = cc in omega arith
 second_or_later (false ∷ ws) n i e = omega (arith, second_or_later ws (suc n) i e)
 
@@ -87,8 +87,8 @@ wrong bytes i m o lt h same =
     let kind : 1 ≤ i → kind_of (byte bytes 1) ≡ Some m.kind = λ le. ap kind_of (same 1 (omega arith)) ∙ kind_back m.kind in
     elim o [
       | length_wrong e ↦ omega (arith, same_fault i 16 e)
-      | no_carrier none e ↦ let z : ◌≡◌ {A = ℕ} 0 1 = cc in omega arith
-      | no_kind none e ↦ let k = kind (omega (arith, same_fault i 1 e)) in let z : ◌≡◌ {A = ℕ} 0 1 = cc in omega arith
+      | no_carrier none e ↦ cc
+      | no_kind none e ↦ let k = kind (omega (arith, same_fault i 1 e)) in cc
       | fields c k l some-c some-k e ↦
           let f = unless_fault (first 2 (wrongs (meant c k bytes) bytes)) (meant c k bytes) i e in
           let later = second_or_later (wrongs (meant c k bytes) bytes) 2 i f in

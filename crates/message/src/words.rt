@@ -74,10 +74,9 @@ impl fmt::Display for Message {
 
     #[tactic(auto, unfolding(crate::specs::Words::words))]
     fn fmt<W: fmt::Write>(&self, f: &mut fmt::Formatter<W>) -> fmt::Result {
-        let Message { carrier, leg, .. } = *self;
-        write!(f, "{carrier}")?;
+        write!(f, "{}", self.carrier)?;
         self.fmt_attached(f)?;
-        write!(f, " leg={leg}")?;
+        write!(f, " leg={}", self.leg)?;
         self.fmt_number(f)?;
         self.fmt_call(f)?;
         self.fmt_error(f)
@@ -89,9 +88,8 @@ impl Message {
     fn fmt_attached<W: fmt::Write>(&self, f: &mut fmt::Formatter<W>) -> fmt::Result
         ensures { WritesOnOk W.write_str_gives f.old result (attached_words self.now.kind self.now.operation) f.new }
     {
-        let kind = self.kind;
         match self.operation {
-            Some(operation) => write!(f, " {kind} {operation}"),
+            Some(operation) => write!(f, " {} {operation}", self.kind),
             None => Ok(()),
         }
     }
@@ -102,8 +100,7 @@ impl Message {
         if !self.has_number() {
             return Ok(());
         }
-        let number = self.number;
-        write!(f, " number={number}")
+        write!(f, " number={}", self.number)
     }
 
     fn fmt_call<W: fmt::Write>(&self, f: &mut fmt::Formatter<W>) -> fmt::Result
@@ -112,12 +109,7 @@ impl Message {
         if !self.names_call() {
             return Ok(());
         }
-        let Message {
-            identity,
-            address,
-            ..
-        } = *self;
-        write!(f, " identity={identity} address={address}")
+        write!(f, " identity={} address={}", self.identity, self.address)
     }
 
     fn fmt_error<W: fmt::Write>(&self, f: &mut fmt::Formatter<W>) -> fmt::Result
@@ -134,8 +126,7 @@ impl fmt::Display for MessageFault {
     ghost output = { λ fault. Some (fault_words fault) };
 
     fn fmt<W: fmt::Write>(&self, f: &mut fmt::Formatter<W>) -> fmt::Result {
-        let byte = self.byte;
-        write!(f, "fault {byte}")
+        write!(f, "fault {}", self.byte)
     }
 }
 
@@ -143,7 +134,6 @@ impl fmt::Display for UnknownNumber {
     ghost output = { λ unknown. Some (unknown_words unknown) };
 
     fn fmt<W: fmt::Write>(&self, f: &mut fmt::Formatter<W>) -> fmt::Result {
-        let number = self.number;
-        write!(f, "unknown number {number}")
+        write!(f, "unknown number {}", self.number)
     }
 }
