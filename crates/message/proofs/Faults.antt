@@ -1,6 +1,7 @@
 -- A fault names the first wrong byte: no lawful row begins so, and some lawful row has all that stands before it.
 use Rattle.std.proofs.Common.{◌≡◌, ℕ, zero, suc, ◌+◌, ◌*◌, ◌/◌, ◌%◌, ◌<◌, ◌≤◌, Bool, true, false, cond, not, ltb, List, [], ◌∷◌, Some, None, Option, sym, refl, ap, ◌∙◌, subst, inl, inr, arith}
 use Rattle.std.proofs.lemmas.Bool.Decides.{nat_tests}
+use Rattle.std.proofs.lemmas.Nat.{div-add-mod'}
 use Rattle.std.proofs.lemmas.Bool.{not-false, cases_lt, cases_eq, lt-ltb, le-ltb}
 use Rattle.message.specs.declared.codes.Carrier.{Carrier}
 use Rattle.message.specs.declared.codes.Kind.{Kind}
@@ -14,7 +15,7 @@ use Rattle.message.specs.Table.{standing, permitted}
 use Rattle.message.specs.Ranges.{inside, of_kind, leg_range, number_range, identity_range, address_range, error_range}
 use Rattle.message.specs.Format.{error_byte, byte, word, row_of, meant, first, wrongs, fault, unless, Lawful}
 use Rattle.message.specs.Laws.{Bytes, Begins, field_end, FaultIsWrong, FaultIsFirst}
-use Rattle.message.proofs.Back.{carrier_back, kind_back, operation_back, word_back}
+use Rattle.message.proofs.Back.{carrier_back, kind_back, operation_back}
 use Rattle.message.proofs.Outcomes.{Outcome, length_wrong, no_carrier, no_kind, fields, outcome, same_fault}
 use Rattle.message.proofs.Accepted.{numbered_has, among_named, error_small, error_named, word_is, zero_is}
 
@@ -51,15 +52,15 @@ fields_right bytes i m h same =
       (
         λ le. simp (at 3 le, h.leg),
         (
-          λ le. simp (named (omega arith), at 4 le, next 4 refl le, word_back, h.number),
+          λ le. simp (named (omega arith), at 4 le, next 4 refl le, div-add-mod', h.number),
           (
             λ le. refl,
             (
-              λ le. simp (named (omega arith), at 6 le, next 6 refl le, word_back, h.identity),
+              λ le. simp (named (omega arith), at 6 le, next 6 refl le, div-add-mod', h.identity),
               (
                 λ le. refl,
                 (
-                  λ le. simp (named (omega arith), at 8 le, next 8 refl le, word_back, h.address),
+                  λ le. simp (named (omega arith), at 8 le, next 8 refl le, div-add-mod', h.address),
                   (
                     λ le. refl,
                     (
