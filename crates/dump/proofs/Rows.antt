@@ -1,6 +1,8 @@
 -- The loops over digits, one turn at a time.
-use Rattle.std.proofs.Common.{◌≡◌, ℕ, ◌+◌, ◌-◌, ◌/◌, ◌%◌, ◌<◌, ◌≤◌, List, [], ◌∷◌, ◌++◌, length, get_or, take, drop, Some, None, Option, sym, refl, ap, ◌∙◌, append_assoc, append-nil, add-one, arith, drop-cons}
-use Rattle.std.proofs.lemmas.List.{drop_all, take_all}
+use Rattle.std.proofs.Common.{◌≡◌, ℕ, ◌+◌, ◌-◌, ◌/◌, ◌%◌, ◌^◌, ◌<◌, ◌≤◌, false, List, [], ◌∷◌, ◌++◌, length, get_or, take, drop, Some, None, Option, sym, refl, ap, ◌∙◌, append_assoc, arith}
+use Rattle.std.specs.Fmt.{digits, padded_integral, format_spec}
+use Rattle.std.proofs.lemmas.Fmt.{hex_byte}
+use Rattle.std.proofs.lemmas.List.{take_all, take_more}
 use Rattle.dump.specs.Hex.{glyph, digit_of, paired, before, hex_row, hex_text}
 
 -- bytes that were read already, before those that are still to come
@@ -31,12 +33,13 @@ row_more line rest xs ys b inv h eb ey =
     ∙ after_more xs b (hex_row (take (length rest - 2) (drop 2 rest)))
     ∙ ap (λ zs. after zs (hex_row (take (length rest - 2) (drop 2 rest)))) (sym ey)
 
-pub text_more : (xs t u : List ℕ) (i : ℕ) → t ++ hex_text (drop i xs) ≡ hex_text xs → i < length xs → u ≡ t ++ (glyph (get_or xs i 0 / 16) ∷ glyph (get_or xs i 0 % 16) ∷ [])
-    → u ++ hex_text (drop (i + 1) xs) ≡ hex_text xs
+hex_append : (xs ys : List ℕ) → hex_text (xs ++ ys) ≡ hex_text xs ++ hex_text ys
 unfolding hex_text
-text_more xs t u i inv h eu =
-    rw (eu, add-one, append_assoc) (ap (λ ys. t ++ hex_text ys) (sym (drop-cons xs i 0 h)) ∙ inv)
+hex_append [] ys = refl
+hex_append (x ∷ xs) ys = ap (λ zs. glyph (x / 16) ∷ glyph (x % 16) ∷ zs) (hex_append xs ys)
 
-pub text_all : (xs t : List ℕ) (i : ℕ) → t ++ hex_text (drop i xs) ≡ hex_text xs → length xs ≤ i → t ≡ hex_text xs
+-- the digits of one byte more
+pub hex_more : (xs : List ℕ) (i : ℕ) → i < length xs → get_or xs i 0 < 256
+    → hex_text (take i xs) ++ padded_integral (format_spec 32 0 4 2 (2 ^ 64 - 1)) false [] (digits 16 false (get_or xs i 0)) ≡ hex_text (take (i + 1) xs)
 unfolding hex_text
-text_all xs t i inv h = sym (append-nil t) ∙ ap (λ ys. t ++ hex_text ys) (sym (drop_all i xs h)) ∙ inv
+hex_more xs i here small = rw (hex_byte false (get_or xs i 0) small, take_more xs i 0 here, hex_append)

@@ -1,4 +1,3 @@
 pub mod Hex
-pub mod Words
 pub mod Lines
 pub mod Laws

@@ -7,7 +7,7 @@ use Rattle.dump.specs.declared.lines.Form.{Form}
 use Rattle.dump.specs.declared.lines.Form.TheVariants as form
 use Rattle.dump.specs.declared.tally.Tally.{Tally}
 use Rattle.dump.specs.Hex.{hex_row, hex_text}
-use Rattle.dump.specs.Words.{words}
+use Rattle.message.specs.Words.{words, fault_words}
 
 -- the k-th character from the end is c
 abbrev pub from_end : ℕ → ℕ → List ℕ → Bool
@@ -31,7 +31,7 @@ message_text m = hex_text (row_of m) ++ (codes " " ++ words m)
 -- a row that is a message, or the number of its fault
 abbrev pub told : Result Message MessageFault → List ℕ
 told (Ok m) = message_text m
-told (Err f) = codes "fault " ++ decimal f.byte
+told (Err f) = fault_words f
 
 -- and a question mark for what is no row
 abbrev pub text_of : Option (List ℕ) → List ℕ

@@ -1,9 +1,10 @@
 // Bytes as hexadecimal digits, two for each byte.
-ghost use Rattle.std.specs.Prelude.{◌≡◌, ◌/◌, ◌%◌, ◌<◌, [], ◌∷◌, ◌++◌, IfOk, vec_items, string_bytes, OnOk};
+ghost use Rattle.std.specs.Prelude.{◌≡◌, IfOk, Some, vec_items};
 ghost use Rattle.std.specs.Option.{option_map};
-ghost use Rattle.dump.specs.Hex.{digit_of, paired, glyph, hex_text, hex_row};
+ghost use Rattle.dump.specs.Hex.{digit_of, paired, hex_text, hex_row};
 
 use std::alloc::{AllocError, Global};
+use std::fmt;
 
 // The value of a digit of either case.
 fn digit(c: u8) -> Option<u8>
@@ -24,35 +25,19 @@ fn byte(high: u8, low: u8) -> Option<u8>
     Some(digit(high)? * 16 + digit(low)?)
 }
 
-// The digit that stands for a value, in lower case.
-fn push_digit(text: &mut String, value: u8) -> Result<(), AllocError>
-    requires { value < 16 }
-    ensures { OnOk result (string_bytes text.new ≡ string_bytes text.old ++ glyph value ∷ []) }
-{
-    let digit = if value < 10 {
-        b'0' + value
-    } else {
-        b'a' - 10 + value
-    };
-    text.push(char::from(digit))
-}
+// Bytes as digits in lower case.
+#[derive(Clone, Copy)]
+pub(crate) struct Hex<'a>(pub(crate) &'a [u8]);
 
-fn push_byte(text: &mut String, byte: u8) -> Result<(), AllocError>
-    ensures { OnOk result (string_bytes text.new ≡ string_bytes text.old ++ (glyph (byte / 16) ∷ glyph (byte % 16) ∷ [])) }
-{
-    push_digit(text, byte / 16)?;
-    push_digit(text, byte % 16)?;
-    Ok(())
-}
+impl fmt::Display for Hex<'_> {
+    ghost output = { λ hex. Some (hex_text hex.0.now) };
 
-pub(crate) fn hex_text(heap: Global, bytes: &[u8]) -> Result<String, AllocError>
-    ensures { IfOk result (λ s. string_bytes s ≡ hex_text bytes.now) }
-{
-    let mut text = String::new(heap);
-    for byte in bytes {
-        push_byte(&mut text, *byte)?;
+    fn fmt<W: fmt::Write>(&self, f: &mut fmt::Formatter<W>) -> fmt::Result {
+        for &byte in self.0 {
+            write!(f, "{byte:02x}")?;
+        }
+        Ok(())
     }
-    Ok(text)
 }
 
 // The bytes that a line of digits means, or none where it has another character or an odd number of them.
@@ -68,9 +53,5 @@ pub(crate) fn hex_row(heap: Global, line: &[u8]) -> Result<Option<Vec<u8>>, Allo
         bytes.push(byte)?;
         rest = more;
     }
-    if rest.is_empty() {
-        Ok(Some(bytes))
-    } else {
-        Ok(None)
-    }
+    Ok(rest.is_empty().then_some(bytes))
 }

@@ -5,7 +5,6 @@ mod hex;
 pub mod laws;
 pub mod lines;
 pub mod tally;
-mod words;
 
 pub use lines::{Described, Form, describe};
 pub use tally::Tally;

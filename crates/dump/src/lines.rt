@@ -2,8 +2,7 @@
 ghost use Rattle.std.specs.Prelude.{◌≡◌, IfOk, Some, string_bytes};
 ghost use Rattle.dump.specs.Lines.{content, message_text, form_of, text_of, form_of_line, text_of_line};
 
-use crate::hex::{hex_row, hex_text};
-use crate::words::in_words;
+use crate::hex::{Hex, hex_row};
 use message::Message;
 use std::alloc::{AllocError, Global};
 
@@ -38,10 +37,7 @@ fn message_text(heap: Global, message: &Message) -> Result<String, AllocError>
     ensures { IfOk result (λ s. string_bytes s ≡ message_text message.now) }
 {
     let row = message.write();
-    let digits = hex_text(heap, &row)?;
-    let words = in_words(heap, message)?;
-    let text = format!(in heap; "{digits} {words}")?;
-    Ok(text)
+    format!(in heap; "{} {message}", Hex(&row))
 }
 
 // What a row of any length turns out to be.
@@ -49,23 +45,11 @@ fn described_row(heap: Global, row: &[u8]) -> Result<Described, AllocError>
     ensures form { IfOk result (λ s. s.form ≡ form_of (Some row.now)) }
     ensures text { IfOk result (λ s. string_bytes s.text ≡ text_of (Some row.now)) }
 {
-    match Message::read(row) {
-        Ok(message) => {
-            let text = message_text(heap, &message)?;
-            Ok(Described {
-                form: Form::Message,
-                text,
-            })
-        }
-        Err(fault) => {
-            let byte = fault.byte;
-            let text = format!(in heap; "fault {byte}")?;
-            Ok(Described {
-                form: Form::Fault,
-                text,
-            })
-        }
-    }
+    let (form, text) = match Message::read(row) {
+        Ok(message) => (Form::Message, message_text(heap, &message)?),
+        Err(fault) => (Form::Fault, fault.to_string(heap)?),
+    };
+    Ok(Described { form, text })
 }
 
 // What a line, with its end or without, turns out to be.
@@ -75,12 +59,9 @@ pub fn describe(heap: Global, line: &[u8]) -> Result<Described, AllocError>
 {
     match hex_row(heap, without_end(line))? {
         Some(row) => described_row(heap, row.as_slice()),
-        None => {
-            let text = String::from_str(heap, "?")?;
-            Ok(Described {
-                form: Form::Unreadable,
-                text,
-            })
-        }
+        None => Ok(Described {
+            form: Form::Unreadable,
+            text: String::from_str(heap, "?")?,
+        }),
     }
 }

@@ -1,11 +1,12 @@
 // How many lines of each form there were.
-ghost use Rattle.std.specs.Prelude.{◌≡◌, IfOk, string_bytes};
+ghost use Rattle.std.specs.Prelude.{◌≡◌, IfOk, Some, string_bytes};
 ghost use Rattle.dump.specs.Lines.{counted, summary_of};
 
 use crate::lines::Form;
 use std::alloc::{AllocError, Global};
+use std::fmt;
 
-#[derive(Clone, Copy, PartialEq, Eq, Debug)]
+#[derive(Clone, Copy, PartialEq, Eq, Debug, Default)]
 pub struct Tally {
     pub messages: u64,
     pub faults: u64,
@@ -16,11 +17,7 @@ impl Tally {
     pub fn new() -> Self
         ensures { (result.messages ≡ 0) × (result.faults ≡ 0) × (result.unreadable ≡ 0) }
     {
-        Tally {
-            messages: 0,
-            faults: 0,
-            unreadable: 0,
-        }
+        Tally::default()
     }
 
     // One line more of this form.
@@ -38,11 +35,22 @@ impl Tally {
     pub fn summary(&self, heap: Global) -> Result<String, AllocError>
         ensures { IfOk result (λ s. string_bytes s ≡ summary_of self.now) }
     {
+        self.to_string(heap)
+    }
+}
+
+impl fmt::Display for Tally {
+    ghost output = { λ tally. Some (summary_of tally) };
+
+    fn fmt<W: fmt::Write>(&self, f: &mut fmt::Formatter<W>) -> fmt::Result {
         let Tally {
             messages,
             faults,
             unreadable,
         } = *self;
-        format!(in heap; "{messages} messages, {faults} faults, {unreadable} unreadable lines")
+        write!(
+            f,
+            "{messages} messages, {faults} faults, {unreadable} unreadable lines"
+        )
     }
 }

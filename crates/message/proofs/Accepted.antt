@@ -20,17 +20,17 @@ use Rattle.message.specs.Laws.{AcceptedIsLawful, AcceptedIsRow, OneRow}
 
 -- the case that a number was read as has that number
 pub numbered_has : {A : Type 0} (number : A → ℕ) (n : ℕ) (xs : List A) (x : A) → numbered number n xs ≡ Some x → number x ≡ n
-numbered_has number n [] x e = let z : ◌≡◌ {A = ℕ} 0 1 = cc in omega arith
+numbered_has number n [] x e = cc
 numbered_has number n (y ∷ ys) x e = let ih = numbered_has number n ys x in grind (arith, nat_tests, ih)
 
 none_true : (i : ℕ) (ws : List Bool) → first i ws ≡ None → AllByRecursion (λ w. w ≡ false) ws
 none_true i [] e = tt
-none_true i (true ∷ ws) e = let z : ◌≡◌ {A = ℕ} 0 1 = cc in absurd (omega arith)
+none_true i (true ∷ ws) e = cc
 none_true i (false ∷ ws) e = (refl, none_true (suc i) ws e)
 
 -- an operation that may stand somewhere is named by its byte
 pub among_named : (n : ℕ) (os : List (Option Operation)) → among n os ≡ true → operation_byte (operation_of n) ≡ n
-among_named n [] e = let z : ◌≡◌ {A = ℕ} 0 1 = cc in omega arith
+among_named n [] e = cc
 among_named n (o ∷ os) e = let ih = among_named n os in let b = operation_back o in grind (arith, nat_tests, ih, b)
 
 pub error_small : (k : Kind) (n : ℕ) → inside (error_range k) n ≡ true → n < 6
@@ -47,7 +47,7 @@ record Accepted (bytes : List ℕ) (m : Message) : Type 0 where
   pub right : AllByRecursion (λ w. w ≡ false) (wrongs m bytes)
 
 no_fault : {X : Type 0} (i : ℕ) (m : Message) → Ok m ≡ fault i → X
-no_fault i m e = let z : ◌≡◌ {A = ℕ} 0 1 = cc in absurd (omega arith)
+no_fault i m e = cc
 
 unless_ok : (o : Option ℕ) (x m : Message) → Ok m ≡ unless o x → (o ≡ None) × (x ≡ m)
 unless_ok None x m e = (refl, cc)

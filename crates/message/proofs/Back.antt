@@ -1,5 +1,5 @@
 -- The row of a lawful message reads back as that message.
-use Rattle.std.proofs.Common.{◌≡◌, ℕ, ◌+◌, ◌*◌, ◌/◌, ◌%◌, ◌<◌, ◌≤◌, true, Some, None, Option, ap, ◌∙◌, arith}
+use Rattle.std.proofs.Common.{◌≡◌, ℕ, ◌/◌, ◌<◌, ◌≤◌, true, Some, None, Option, ap, ◌∙◌, arith}
 use Rattle.message.specs.declared.codes.Carrier.{Carrier}
 use Rattle.message.specs.declared.codes.Kind.{Kind}
 use Rattle.message.specs.declared.codes.Operation.{Operation}
@@ -12,6 +12,7 @@ use Rattle.message.specs.Laws.{Bytes, ReadsBack}
 use Rattle.message.specs.declared.ranges.Span.{Span}
 use Rattle.message.specs.Ranges.{inside, number_range, identity_range, address_range}
 use Rattle.std.proofs.lemmas.Bool.Decides.{nat_tests}
+use Rattle.std.proofs.lemmas.Nat.{div-add-mod'}
 
 pub carrier_back : (c : Carrier) → carrier_of (carrier_number c) ≡ Some c
 carrier_back c = grind arith
@@ -25,12 +26,9 @@ operation_back o = grind arith
 pub error_back : (e : Option ErrorCode) → error_of (error_byte e) ≡ e
 error_back e = grind arith
 
-pub word_back : (n : ℕ) → n / 256 * 256 + n % 256 ≡ n
-word_back n = omega arith
-
 meant_row : (m : Message) → meant m.carrier m.kind (row_of m) ≡ m
 meant_row m =
-    simp (operation_back, error_back, word_back)
+    simp (operation_back, error_back, div-add-mod')
 
 none_wrong : (m : Message) → Lawful m → first 2 (wrongs m (row_of m)) ≡ None
 none_wrong m h = simp (h.standing, h.leg, h.number, h.identity, h.address, h.error)

@@ -1,6 +1,7 @@
 -- A fault names the first wrong byte: no lawful row begins so, and some lawful row has all that stands before it.
 use Rattle.std.proofs.Common.{◌≡◌, ℕ, zero, suc, ◌+◌, ◌*◌, ◌/◌, ◌%◌, ◌<◌, ◌≤◌, Bool, true, false, cond, not, ltb, List, [], ◌∷◌, Some, None, Option, sym, refl, ap, ◌∙◌, subst, inl, inr, arith}
 use Rattle.std.proofs.lemmas.Bool.Decides.{nat_tests}
+use Rattle.std.proofs.lemmas.Nat.{div-add-mod'}
 use Rattle.std.proofs.lemmas.Bool.{not-false, cases_lt, cases_eq, lt-ltb, le-ltb}
 use Rattle.message.specs.declared.codes.Carrier.{Carrier}
 use Rattle.message.specs.declared.codes.Kind.{Kind}
@@ -14,12 +15,12 @@ use Rattle.message.specs.Table.{standing, permitted}
 use Rattle.message.specs.Ranges.{inside, of_kind, leg_range, number_range, identity_range, address_range, error_range}
 use Rattle.message.specs.Format.{error_byte, byte, word, row_of, meant, first, wrongs, fault, unless, Lawful}
 use Rattle.message.specs.Laws.{Bytes, Begins, field_end, FaultIsWrong, FaultIsFirst}
-use Rattle.message.proofs.Back.{carrier_back, kind_back, operation_back, word_back}
+use Rattle.message.proofs.Back.{carrier_back, kind_back, operation_back}
 use Rattle.message.proofs.Outcomes.{Outcome, length_wrong, no_carrier, no_kind, fields, outcome, same_fault}
 use Rattle.message.proofs.Accepted.{numbered_has, among_named, error_small, error_named, word_is, zero_is}
 
 unless_fault : (o : Option ℕ) (m : Message) (i : ℕ) → fault i ≡ unless o m → o ≡ Some i
-unless_fault None m i e = let z : ◌≡◌ {A = ℕ} 0 1 = cc in absurd (omega arith)
+unless_fault None m i e = cc
 unless_fault (Some j) m i e = ap Some (same_fault j i (sym e))
 
 -- a fact of each place of a list, counted from n
@@ -29,9 +30,9 @@ Each P n (w ∷ ws) = P n w × Each P (suc n) ws
 
 -- where all is right up to i, the first wrong one is not i
 right_up_to : (ws : List Bool) (n i : ℕ) → Each (λ j w. j ≤ i → w ≡ false) n ws → first n ws ≡ Some i → ⊥
-right_up_to [] n i right e = let z : ◌≡◌ {A = ℕ} 0 1 = cc in omega arith
+right_up_to [] n i right e = cc
 right_up_to (true ∷ ws) n i right e =
-    let s : n ≡ i = cc in let f = right.0 (omega arith) in let z : ◌≡◌ {A = ℕ} 0 1 = cc in omega arith
+    let s : n ≡ i = cc in let f = right.0 (omega arith) in cc
 right_up_to (false ∷ ws) n i right e = right_up_to ws (suc n) i right.1 e
 
 end_after : (i : ℕ) → i < field_end i
@@ -51,15 +52,15 @@ fields_right bytes i m h same =
       (
         λ le. simp (at 3 le, h.leg),
         (
-          λ le. simp (named (omega arith), at 4 le, next 4 refl le, word_back, h.number),
+          λ le. simp (named (omega arith), at 4 le, next 4 refl le, div-add-mod', h.number),
           (
             λ le. refl,
             (
-              λ le. simp (named (omega arith), at 6 le, next 6 refl le, word_back, h.identity),
+              λ le. simp (named (omega arith), at 6 le, next 6 refl le, div-add-mod', h.identity),
               (
                 λ le. refl,
                 (
-                  λ le. simp (named (omega arith), at 8 le, next 8 refl le, word_back, h.address),
+                  λ le. simp (named (omega arith), at 8 le, next 8 refl le, div-add-mod', h.address),
                   (
                     λ le. refl,
                     (
@@ -76,7 +77,7 @@ fields_right bytes i m h same =
     )
 
 second_or_later : (ws : List Bool) (n i : ℕ) → first n ws ≡ Some i → n ≤ i
-second_or_later [] n i e = let z : ◌≡◌ {A = ℕ} 0 1 = cc in absurd (omega arith)
+second_or_later [] n i e = cc
 second_or_later (true ∷ ws) n i e = let s : n ≡ i = cc in omega arith
 second_or_later (false ∷ ws) n i e = omega (arith, second_or_later ws (suc n) i e)
 
@@ -87,8 +88,8 @@ wrong bytes i m o lt h same =
     let kind : 1 ≤ i → kind_of (byte bytes 1) ≡ Some m.kind = λ le. ap kind_of (same 1 (omega arith)) ∙ kind_back m.kind in
     elim o [
       | length_wrong e ↦ omega (arith, same_fault i 16 e)
-      | no_carrier none e ↦ let z : ◌≡◌ {A = ℕ} 0 1 = cc in omega arith
-      | no_kind none e ↦ let k = kind (omega (arith, same_fault i 1 e)) in let z : ◌≡◌ {A = ℕ} 0 1 = cc in omega arith
+      | no_carrier none e ↦ cc
+      | no_kind none e ↦ let k = kind (omega (arith, same_fault i 1 e)) in cc
       | fields c k l some-c some-k e ↦
           let f = unless_fault (first 2 (wrongs (meant c k bytes) bytes)) (meant c k bytes) i e in
           let later = second_or_later (wrongs (meant c k bytes) bytes) 2 i f in

@@ -1,5 +1,6 @@
 -- The number that stands for each case of a message's four enumerations, each said once.
-use Rattle.std.specs.Prelude.{ℕ, cond, List, [], ◌∷◌, Some, None, Option, ◌==◌}
+use Rattle.std.specs.Prelude.{ℕ, cond, List, [], ◌∷◌, Some, None, Option, Result, ◌==◌}
+use Rattle.std.specs.Option.{ok_or}
 use Rattle.message.specs.declared.codes.Carrier.{Carrier}
 use Rattle.message.specs.declared.codes.Carrier.TheVariants as carrier
 use Rattle.message.specs.declared.codes.Kind.{Kind}
@@ -8,11 +9,16 @@ use Rattle.message.specs.declared.codes.Operation.{Operation}
 use Rattle.message.specs.declared.codes.Operation.TheVariants as operation
 use Rattle.message.specs.declared.codes.ErrorCode.{ErrorCode}
 use Rattle.message.specs.declared.codes.ErrorCode.TheVariants as error
+use Rattle.message.specs.declared.codes.UnknownNumber.{UnknownNumber}
 
 -- the first case in the list that has this number
 abbrev pub numbered : {A : Type 0} → (A → ℕ) → ℕ → List A → Option A
 numbered number n [] = None
 numbered number n (x ∷ xs) = cond (number x == n) (Some x) (numbered number n xs)
+
+-- the case that was found for n, or the error that names n
+abbrev pub or_unknown : {A : Type 0} → Option A → ℕ → Result A UnknownNumber
+or_unknown found n = ok_or found (record { number = n })
 
 abbrev pub carrier_number : Carrier → ℕ
 carrier_number carrier.Setup = 1

@@ -1,6 +1,8 @@
 // The four enumerations of a message, and the number that stands for each case in a row.
 ghost use Rattle.std.specs.Prelude.{◌≡◌};
-ghost use Rattle.message.specs.Codes.{carrier_number, carrier_of, kind_number, kind_of, operation_number, operation_of, error_number, error_of};
+ghost use Rattle.message.specs.Codes.{carrier_number, carrier_of, kind_number, kind_of, operation_number, operation_of, error_number, error_of, or_unknown};
+
+use std::error::Error;
 
 // The call message that carries the supplementary service.
 #[derive(Clone, Copy, PartialEq, Eq, Debug)]
@@ -45,11 +47,19 @@ pub enum ErrorCode {
     SupplementaryServiceInteractionNotAllowed,
 }
 
-impl Carrier {
-    pub fn number(self) -> u8
-        ensures { result ≡ carrier_number self }
-    {
-        match self {
+// A number for which an enumeration has no case.
+#[derive(Clone, Copy, PartialEq, Eq, Debug)]
+pub struct UnknownNumber {
+    pub number: u8,
+}
+
+impl Error for UnknownNumber {}
+
+impl From<Carrier> for u8 {
+    ghost from_gives = { λ carrier number. number ≡ carrier_number carrier };
+
+    fn from(carrier: Carrier) -> u8 {
+        match carrier {
             Carrier::Setup => 1,
             Carrier::Alerting => 2,
             Carrier::Connect => 3,
@@ -57,26 +67,30 @@ impl Carrier {
             Carrier::ReleaseComplete => 5,
         }
     }
+}
 
-    pub fn from_number(number: u8) -> Option<Self>
-        ensures { result ≡ carrier_of number }
-    {
+impl TryFrom<u8> for Carrier {
+    type Error = UnknownNumber;
+
+    ghost try_from_gives = { λ number outcome. outcome ≡ or_unknown (carrier_of number) number };
+
+    fn try_from(number: u8) -> Result<Carrier, UnknownNumber> {
         match number {
-            1 => Some(Carrier::Setup),
-            2 => Some(Carrier::Alerting),
-            3 => Some(Carrier::Connect),
-            4 => Some(Carrier::Facility),
-            5 => Some(Carrier::ReleaseComplete),
-            _ => None,
+            1 => Ok(Carrier::Setup),
+            2 => Ok(Carrier::Alerting),
+            3 => Ok(Carrier::Connect),
+            4 => Ok(Carrier::Facility),
+            5 => Ok(Carrier::ReleaseComplete),
+            _ => Err(UnknownNumber { number }),
         }
     }
 }
 
-impl Kind {
-    pub fn number(self) -> u8
-        ensures { result ≡ kind_number self }
-    {
-        match self {
+impl From<Kind> for u8 {
+    ghost from_gives = { λ kind number. number ≡ kind_number kind };
+
+    fn from(kind: Kind) -> u8 {
+        match kind {
             Kind::Nothing => 0,
             Kind::Invoke => 1,
             Kind::Result => 2,
@@ -84,26 +98,30 @@ impl Kind {
             Kind::Reject => 4,
         }
     }
+}
 
-    pub fn from_number(number: u8) -> Option<Self>
-        ensures { result ≡ kind_of number }
-    {
+impl TryFrom<u8> for Kind {
+    type Error = UnknownNumber;
+
+    ghost try_from_gives = { λ number outcome. outcome ≡ or_unknown (kind_of number) number };
+
+    fn try_from(number: u8) -> Result<Kind, UnknownNumber> {
         match number {
-            0 => Some(Kind::Nothing),
-            1 => Some(Kind::Invoke),
-            2 => Some(Kind::Result),
-            3 => Some(Kind::Error),
-            4 => Some(Kind::Reject),
-            _ => None,
+            0 => Ok(Kind::Nothing),
+            1 => Ok(Kind::Invoke),
+            2 => Ok(Kind::Result),
+            3 => Ok(Kind::Error),
+            4 => Ok(Kind::Reject),
+            _ => Err(UnknownNumber { number }),
         }
     }
 }
 
-impl Operation {
-    pub fn number(self) -> u8
-        ensures { result ≡ operation_number self }
-    {
-        match self {
+impl From<Operation> for u8 {
+    ghost from_gives = { λ operation number. number ≡ operation_number operation };
+
+    fn from(operation: Operation) -> u8 {
+        match operation {
             Operation::CallTransferIdentify => 1,
             Operation::CallTransferAbandon => 2,
             Operation::CallTransferInitiate => 3,
@@ -114,29 +132,33 @@ impl Operation {
             Operation::RemoteRetrieve => 8,
         }
     }
+}
 
-    pub fn from_number(number: u8) -> Option<Self>
-        ensures { result ≡ operation_of number }
-    {
+impl TryFrom<u8> for Operation {
+    type Error = UnknownNumber;
+
+    ghost try_from_gives = { λ number outcome. outcome ≡ or_unknown (operation_of number) number };
+
+    fn try_from(number: u8) -> Result<Operation, UnknownNumber> {
         match number {
-            1 => Some(Operation::CallTransferIdentify),
-            2 => Some(Operation::CallTransferAbandon),
-            3 => Some(Operation::CallTransferInitiate),
-            4 => Some(Operation::CallTransferSetup),
-            5 => Some(Operation::HoldNotific),
-            6 => Some(Operation::RetrieveNotific),
-            7 => Some(Operation::RemoteHold),
-            8 => Some(Operation::RemoteRetrieve),
-            _ => None,
+            1 => Ok(Operation::CallTransferIdentify),
+            2 => Ok(Operation::CallTransferAbandon),
+            3 => Ok(Operation::CallTransferInitiate),
+            4 => Ok(Operation::CallTransferSetup),
+            5 => Ok(Operation::HoldNotific),
+            6 => Ok(Operation::RetrieveNotific),
+            7 => Ok(Operation::RemoteHold),
+            8 => Ok(Operation::RemoteRetrieve),
+            _ => Err(UnknownNumber { number }),
         }
     }
 }
 
-impl ErrorCode {
-    pub fn number(self) -> u8
-        ensures { result ≡ error_number self }
-    {
-        match self {
+impl From<ErrorCode> for u8 {
+    ghost from_gives = { λ error number. number ≡ error_number error };
+
+    fn from(error: ErrorCode) -> u8 {
+        match error {
             ErrorCode::UnrecognizedCallIdentity => 1,
             ErrorCode::EstablishmentFailure => 2,
             ErrorCode::Unspecified => 3,
@@ -144,17 +166,21 @@ impl ErrorCode {
             ErrorCode::SupplementaryServiceInteractionNotAllowed => 5,
         }
     }
+}
 
-    pub fn from_number(number: u8) -> Option<Self>
-        ensures { result ≡ error_of number }
-    {
+impl TryFrom<u8> for ErrorCode {
+    type Error = UnknownNumber;
+
+    ghost try_from_gives = { λ number outcome. outcome ≡ or_unknown (error_of number) number };
+
+    fn try_from(number: u8) -> Result<ErrorCode, UnknownNumber> {
         match number {
-            1 => Some(ErrorCode::UnrecognizedCallIdentity),
-            2 => Some(ErrorCode::EstablishmentFailure),
-            3 => Some(ErrorCode::Unspecified),
-            4 => Some(ErrorCode::InvalidCallState),
-            5 => Some(ErrorCode::SupplementaryServiceInteractionNotAllowed),
-            _ => None,
+            1 => Ok(ErrorCode::UnrecognizedCallIdentity),
+            2 => Ok(ErrorCode::EstablishmentFailure),
+            3 => Ok(ErrorCode::Unspecified),
+            4 => Ok(ErrorCode::InvalidCallState),
+            5 => Ok(ErrorCode::SupplementaryServiceInteractionNotAllowed),
+            _ => Err(UnknownNumber { number }),
         }
     }
 }

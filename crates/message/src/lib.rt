@@ -7,6 +7,7 @@ mod ranges;
 pub mod record;
 mod rows;
 mod table;
+mod words;
 
-pub use codes::{Carrier, ErrorCode, Kind, Operation};
+pub use codes::{Carrier, ErrorCode, Kind, Operation, UnknownNumber};
 pub use record::{Message, MessageFault};

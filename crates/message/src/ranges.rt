@@ -5,7 +5,7 @@ ghost use Rattle.message.specs.Ranges.{inside, confirmed, has_number, names_call
 use crate::codes::{Kind, Operation};
 use crate::record::Message;
 
-// A span of numbers, both ends in it.
+// A span of numbers, both ends in it. Not `RangeInclusive`, which is an iterator too: it has a state of its own, and is not `Copy`.
 #[derive(Clone, Copy)]
 pub struct Span {
     least: u16,
@@ -16,9 +16,11 @@ impl Span {
     pub(crate) fn contains(self, value: u16) -> bool
         ensures { result ≡ inside self value }
     {
-        self.least <= value && value <= self.most
+        (self.least..=self.most).contains(&value)
     }
 }
+
+pub(crate) const LEG: Span = Span { least: 0, most: 31 };
 
 // A field that does not apply is 0.
 const ABSENT: Span = Span { least: 0, most: 0 };
@@ -26,7 +28,7 @@ const ABSENT: Span = Span { least: 0, most: 0 };
 // Any number of two bytes but 0.
 const POSITIVE: Span = Span {
     least: 1,
-    most: 65535,
+    most: u16::MAX,
 };
 
 impl Operation {
@@ -34,15 +36,14 @@ impl Operation {
     pub fn is_confirmed(self) -> bool
         ensures { result ≡ confirmed self }
     {
-        match self {
+        matches!(
+            self,
             Operation::CallTransferIdentify
-            | Operation::CallTransferInitiate
-            | Operation::CallTransferSetup
-            | Operation::RemoteHold
-            | Operation::RemoteRetrieve => true,
-            Operation::CallTransferAbandon | Operation::HoldNotific | Operation::RetrieveNotific =>
-                false,
-        }
+                | Operation::CallTransferInitiate
+                | Operation::CallTransferSetup
+                | Operation::RemoteHold
+                | Operation::RemoteRetrieve
+        )
     }
 }
 
@@ -51,20 +52,18 @@ impl Message {
     pub fn has_number(&self) -> bool
         ensures { result ≡ has_number self.now.operation }
     {
-        match self.operation {
-            Some(operation) => operation.is_confirmed(),
-            None => false,
-        }
+        self.operation.is_some_and(Operation::is_confirmed)
     }
 
     // Whether the message names a call, by its identity and the address at which it is met.
     pub fn names_call(&self) -> bool
         ensures { result ≡ names_call self.now.kind self.now.operation }
     {
-        match (self.kind, self.operation) {
-            (Kind::Result, Some(Operation::CallTransferIdentify)) => true,
-            (Kind::Invoke, Some(Operation::CallTransferInitiate | Operation::CallTransferSetup)) =>
-                true,
+        match self.operation {
+            Some(Operation::CallTransferIdentify) => self.kind == Kind::Result,
+            Some(Operation::CallTransferInitiate | Operation::CallTransferSetup) => {
+                self.kind == Kind::Invoke
+            }
             _ => false,
         }
     }
@@ -98,13 +97,13 @@ impl Message {
     {
         if self.names_call() { POSITIVE } else { ABSENT }
     }
-}
 
-pub(crate) fn error_range(kind: Kind) -> Span
-    ensures { result ≡ error_range kind }
-{
-    match kind {
-        Kind::Error => Span { least: 1, most: 5 },
-        _ => ABSENT,
+    pub(crate) fn error_range(&self) -> Span
+        ensures { result ≡ error_range self.now.kind }
+    {
+        match self.kind {
+            Kind::Error => Span { least: 1, most: 5 },
+            _ => ABSENT,
+        }
     }
 }

@@ -1,5 +1,6 @@
 // A message, and what is wrong with bytes that are none.
 use crate::codes::{Carrier, ErrorCode, Kind, Operation};
+use std::error::Error;
 
 // One signalling message. A number, identity or address that does not apply is 0.
 #[derive(Clone, Copy, PartialEq, Eq, Debug)]
@@ -19,3 +20,5 @@ pub struct Message {
 pub struct MessageFault {
     pub byte: u8,
 }
+
+impl Error for MessageFault {}

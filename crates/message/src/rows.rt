@@ -1,42 +1,19 @@
 // Messages as rows of sixteen bytes.
-ghost use Rattle.std.specs.Prelude.{◌≡◌, ◌+◌, ◌*◌, ◌/◌, ◌%◌, IfOk, Ok};
+ghost use Rattle.std.specs.Prelude.{◌≡◌, IfOk, Ok};
+ghost use Rattle.message.specs.Codes.{carrier_of, kind_of};
 ghost use Rattle.message.specs.Table.{operation_byte};
-ghost use Rattle.message.specs.Format.{row_of, first, wrongs, wrong_zeros, verdict, error_byte, Lawful};
+ghost use Rattle.message.specs.Format.{row_of, byte, meant, judged, first, wrongs, wrong_zeros, verdict, error_byte, Lawful};
 
 use crate::codes::{Carrier, ErrorCode, Kind, Operation};
-use crate::ranges::error_range;
+use crate::ranges::LEG;
 use crate::record::{Message, MessageFault};
 use crate::table::permits;
-
-// Of a two-byte field the more significant byte stands first.
-fn high(value: u16) -> u8
-    ensures { result ≡ value / 256 }
-{
-    (value / 256) as u8
-}
-
-fn low(value: u16) -> u8
-    ensures { result ≡ value % 256 }
-{
-    (value % 256) as u8
-}
-
-fn word(high: u8, low: u8) -> u16
-    ensures { result ≡ high * 256 + low }
-{
-    u16::from_be_bytes([high, low])
-}
 
 // The first of the bytes 11 to 15 that is not 0.
 fn used(row: &[u8; 16]) -> Option<u8>
     ensures { result ≡ first 11 (wrong_zeros row.now) }
 {
-    for byte in 11..16u8 {
-        if row[byte as usize] != 0 {
-            return Some(byte);
-        }
-    }
-    None
+    (11..16u8).find(|&byte| row[usize::from(byte)] != 0)
 }
 
 impl Message {
@@ -44,19 +21,29 @@ impl Message {
     pub fn operation_number(&self) -> u8
         ensures { result ≡ operation_byte self.now.operation }
     {
-        match self.operation {
-            Some(operation) => operation.number(),
-            None => 0,
-        }
+        self.operation.map_or(0, u8::from)
     }
 
     // The number of the error code, 0 where there is none.
     pub fn error_number(&self) -> u8
         ensures { result ≡ error_byte self.now.error }
     {
-        match self.error {
-            Some(error) => error.number(),
-            None => 0,
+        self.error.map_or(0, u8::from)
+    }
+
+    // What the fields of a row of this carrier and kind say.
+    fn meant(carrier: Carrier, kind: Kind, row: &[u8; 16]) -> Message
+        ensures { result ≡ meant carrier kind row.now }
+    {
+        Message {
+            carrier,
+            kind,
+            operation: Operation::try_from(row[2]).ok(),
+            leg: row[3],
+            number: u16::from_be_bytes([row[4], row[5]]),
+            identity: u16::from_be_bytes([row[6], row[7]]),
+            address: u16::from_be_bytes([row[8], row[9]]),
+            error: ErrorCode::try_from(row[10]).ok(),
         }
     }
 
@@ -67,7 +54,7 @@ impl Message {
         if !permits(self.carrier, self.kind, row[2]) {
             return Some(2);
         }
-        if self.leg > 31 {
+        if !LEG.contains(u16::from(self.leg)) {
             return Some(3);
         }
         if !self.number_range().contains(self.number) {
@@ -79,39 +66,31 @@ impl Message {
         if !self.address_range().contains(self.address) {
             return Some(8);
         }
-        if !error_range(self.kind).contains(u16::from(row[10])) {
+        if !self.error_range().contains(u16::from(row[10])) {
             return Some(10);
         }
         used(row)
+    }
+
+    // The verdict on sixteen bytes.
+    fn judge_row(row: &[u8; 16]) -> Result<Message, MessageFault>
+        ensures { result ≡ judged (carrier_of (byte row.now 0)) (kind_of (byte row.now 1)) row.now }
+    {
+        let carrier = Carrier::try_from(row[0]).map_err(|_| MessageFault { byte: 0 })?;
+        let kind = Kind::try_from(row[1]).map_err(|_| MessageFault { byte: 1 })?;
+        let message = Message::meant(carrier, kind, row);
+        match message.first_wrong(row) {
+            Some(byte) => Err(MessageFault { byte }),
+            None => Ok(message),
+        }
     }
 
     // The verdict alone; `read` adds what the laws say of it.
     fn judge(bytes: &[u8]) -> Result<Message, MessageFault>
         ensures { result ≡ verdict bytes.now }
     {
-        let Ok(row) = <&[u8; 16]>::try_from(bytes) else {
-            return Err(MessageFault { byte: 16 });
-        };
-        let Some(carrier) = Carrier::from_number(row[0]) else {
-            return Err(MessageFault { byte: 0 });
-        };
-        let Some(kind) = Kind::from_number(row[1]) else {
-            return Err(MessageFault { byte: 1 });
-        };
-        let message = Message {
-            carrier,
-            kind,
-            operation: Operation::from_number(row[2]),
-            leg: row[3],
-            number: word(row[4], row[5]),
-            identity: word(row[6], row[7]),
-            address: word(row[8], row[9]),
-            error: ErrorCode::from_number(row[10]),
-        };
-        match message.first_wrong(row) {
-            Some(byte) => Err(MessageFault { byte }),
-            None => Ok(message),
-        }
+        let row = <&[u8; 16]>::try_from(bytes).map_err(|_| MessageFault { byte: 16 })?;
+        Message::judge_row(row)
     }
 
     // The message that a row means, or its first wrong byte. What is accepted is lawful, and is the row that is written of it.
@@ -134,17 +113,26 @@ impl Message {
     fn encode(&self) -> [u8; 16]
         ensures { result ≡ row_of self.now }
     {
+        let Message {
+            number,
+            identity,
+            address,
+            ..
+        } = *self;
+        let [number_high, number_low] = number.to_be_bytes();
+        let [identity_high, identity_low] = identity.to_be_bytes();
+        let [address_high, address_low] = address.to_be_bytes();
         [
-            self.carrier.number(),
-            self.kind.number(),
+            u8::from(self.carrier),
+            u8::from(self.kind),
             self.operation_number(),
             self.leg,
-            high(self.number),
-            low(self.number),
-            high(self.identity),
-            low(self.identity),
-            high(self.address),
-            low(self.address),
+            number_high,
+            number_low,
+            identity_high,
+            identity_low,
+            address_high,
+            address_low,
             self.error_number(),
             0,
             0,

@@ -17,7 +17,7 @@ const OPERATION_MASKS: [[u16; 5]; 5] = [
 fn mask(carrier: Carrier, kind: Kind) -> u16
     ensures { result ≡ mask_of (standing carrier kind) }
 {
-    OPERATION_MASKS[kind.number() as usize][carrier.number() as usize - 1]
+    OPERATION_MASKS[kind as usize][carrier as usize]
 }
 
 // Whether byte `operation` may stand under this carrier and kind.

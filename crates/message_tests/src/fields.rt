@@ -8,8 +8,8 @@ pub fn fields(message: &Message) -> [u16; 8]
     ensures { result ≡ fields_of message.now }
 {
     [
-        u16::from(message.carrier.number()),
-        u16::from(message.kind.number()),
+        u16::from(u8::from(message.carrier)),
+        u16::from(u8::from(message.kind)),
         u16::from(message.operation_number()),
         u16::from(message.leg),
         message.number,

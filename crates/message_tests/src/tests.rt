@@ -1,4 +1,4 @@
-use crate::cases::{FAULTY_BYTES, FAULTY_ROWS, LAWFUL_FIELDS, LAWFUL_ROWS};
+use crate::cases::{FAULTY, LAWFUL};
 use crate::fields::fields;
 use message::{Message, MessageFault};
 use std::test::Fail;
@@ -6,7 +6,7 @@ use std::test::Fail;
 // Each lawful row means its message, and is written of it again.
 #[test]
 fn lawful_rows(rt: HostRuntime) -> Result<(), Fail> {
-    for (row, expected) in LAWFUL_ROWS.iter().zip(LAWFUL_FIELDS.iter()) {
+    for (row, expected) in &LAWFUL {
         let message = Message::read(row)?;
         assert_eq!(rt; fields(&message), *expected);
         assert_eq!(rt; message.write(), *row);
@@ -17,8 +17,8 @@ fn lawful_rows(rt: HostRuntime) -> Result<(), Fail> {
 // Each faulty row is faulted at its first wrong byte.
 #[test]
 fn faulty_rows(rt: HostRuntime) {
-    for (row, byte) in FAULTY_ROWS.iter().zip(FAULTY_BYTES) {
-        assert_eq!(rt; Message::read(row), Err(MessageFault { byte }));
+    for (row, byte) in &FAULTY {
+        assert_eq!(rt; Message::read(row), Err(MessageFault { byte: *byte }));
     }
 }
 

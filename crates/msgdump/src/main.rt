@@ -6,40 +6,53 @@ use std::alloc::Global;
 use std::io;
 use std::io::{BufRead, BufReader, BufWriter, Write};
 
-// One line from input to output, through the buffer that each line takes in turn; false at the end of the input.
-fn one_line<R: BufRead, W: Write>(
+// From input to output, through the buffer that each line takes in turn.
+#[derive(Drop)]
+struct Session<R, W> {
     heap: Global,
-    input: &mut R,
-    line: &mut Vec<u8>,
-    output: &mut W,
-    tally: &mut Tally,
-) -> io::Result<bool> {
-    line.clear();
-    if input.read_until(b'\n', line)? == 0 {
-        return Ok(false);
+    input: R,
+    line: Vec<u8>,
+    output: W,
+    tally: Tally,
+}
+
+impl<R: BufRead, W: Write> Session<R, W> {
+    // One line; false at the end of the input.
+    fn one_line(&mut self) -> io::Result<bool> {
+        self.line.clear();
+        if self.input.read_until(b'\n', &mut self.line)? == 0 {
+            return Ok(false);
+        }
+        let described = describe(self.heap, self.line.as_slice())?;
+        writeln!(self.output, "{}", described.text)?;
+        self.tally.count(described.form);
+        Ok(true)
     }
-    let described = describe(heap, line.as_slice())?;
-    output.write_all(described.text.as_bytes())?;
-    output.write_all(b"\n")?;
-    tally.count(described.form);
-    Ok(true)
+
+    // Every line, and then how many there were.
+    fn run(&mut self) -> io::Result<()> {
+        // A loop that waits on input has no bound of its own, and each loop is written with one: this is out of reach.
+        for _ in 0..u64::MAX {
+            if !self.one_line()? {
+                break;
+            }
+        }
+        let summary = self.tally.summary(self.heap)?;
+        writeln!(self.output, "{summary}")?;
+        self.output.flush()
+    }
 }
 
 fn run(rt: &HostRuntime) -> io::Result<()> {
     let heap = rt.alloc();
-    let mut input = BufReader::new(heap, rt.stdin())?;
-    let mut output = BufWriter::new(heap, rt.stdout())?;
-    let mut line = Vec::new(heap);
-    let mut tally = Tally::new();
-    for _ in 0..u64::MAX {
-        if !one_line(heap, &mut input, &mut line, &mut output, &mut tally)? {
-            break;
-        }
-    }
-    let summary = tally.summary(heap)?;
-    output.write_all(summary.as_bytes())?;
-    output.write_all(b"\n")?;
-    output.flush()
+    let mut session = Session {
+        heap,
+        input: BufReader::new(heap, rt.stdin())?,
+        line: Vec::new(heap),
+        output: BufWriter::new(heap, rt.stdout())?,
+        tally: Tally::new(),
+    };
+    session.run()
 }
 
 fn main(rt: HostRuntime) -> io::Result<()> {

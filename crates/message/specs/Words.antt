@@ -1,4 +1,4 @@
--- A message in words.
+-- A message in words, and what is wrong with what is none.
 use Rattle.std.specs.Prelude.{ℕ, cond, List, [], ◌++◌, Some, None, codes, decimal, Option}
 use Rattle.message.specs.declared.codes.Carrier.{Carrier}
 use Rattle.message.specs.declared.codes.Carrier.TheVariants.{Setup, Alerting, Connect, Facility, ReleaseComplete}
@@ -8,7 +8,9 @@ use Rattle.message.specs.declared.codes.Operation.{Operation}
 use Rattle.message.specs.declared.codes.Operation.TheVariants.{CallTransferIdentify, CallTransferAbandon, CallTransferInitiate, CallTransferSetup, HoldNotific, RetrieveNotific, RemoteHold, RemoteRetrieve}
 use Rattle.message.specs.declared.codes.ErrorCode.{ErrorCode}
 use Rattle.message.specs.declared.codes.ErrorCode.TheVariants.{UnrecognizedCallIdentity, EstablishmentFailure, Unspecified, InvalidCallState, SupplementaryServiceInteractionNotAllowed}
+use Rattle.message.specs.declared.codes.UnknownNumber.{UnknownNumber}
 use Rattle.message.specs.declared.record.Message.{Message}
+use Rattle.message.specs.declared.record.MessageFault.{MessageFault}
 use Rattle.message.specs.Ranges.{has_number, names_call}
 
 abbrev pub carrier_word : Carrier → List ℕ
@@ -64,3 +66,9 @@ words m =
     carrier_word m.carrier ++
     (attached_words m.kind m.operation ++
     (codes " leg=" ++ (decimal m.leg ++ (number_words m ++ (call_words m ++ error_words m.error)))))
+
+abbrev pub fault_words : MessageFault → List ℕ
+fault_words f = codes "fault " ++ decimal f.byte
+
+abbrev pub unknown_words : UnknownNumber → List ℕ
+unknown_words u = codes "unknown number " ++ decimal u.number

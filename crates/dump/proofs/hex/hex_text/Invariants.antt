@@ -1,6 +1,0 @@
-use Rattle.std.proofs.Common.{◌≡◌, ◌++◌, drop, string_bytes}
-use Rattle.dump.specs.Hex.{hex_text}
-use Rattle.dump.proofs.hex.hex_text.Given as goal
-
-abbrev pub invariant-loop-byte : goal.invariant-loop-byte
-invariant-loop-byte l = string_bytes l.text ++ hex_text (drop l.byte-index l.bytes) ≡ hex_text l.bytes
