@@ -3,6 +3,10 @@ use Rattle.std.specs.Prelude.{◌≡◌, ℕ, ◌+◌, ◌-◌, ◌<◌, ◌≤�
 use Rattle.message.specs.declared.record.Message.{Message}
 use Rattle.queue.specs.declared.ring.RingQueue.{RingQueue}
 
+-- how many records a ring can stand on
+abbrev pub FitsRing : ℕ → Type 0
+FitsRing n = (2 ≤ n) × (n ≤ 4096)
+
 -- the records from place h on, and then from the start
 abbrev pub turned : {X : Type 0} → ℕ → List X → List X
 turned h xs = drop h xs ++ take h xs

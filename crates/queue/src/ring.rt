@@ -1,29 +1,42 @@
 // A queue on records that the host lends, read in a ring.
-ghost use Rattle.std.specs.Prelude.{◌≡◌, ℕ, ◌+◌, ◌-◌, ◌<◌, ◌≤◌, min, List, [], ◌∷◌, ◌++◌, length, Some, None, Ok, Err, slice_index_or, slice_set};
-ghost use Rattle.queue.specs.Bounds.{Bounds};
-ghost use Rattle.queue.specs.Rings.{Start, Next, OneWritten, records_of, ring_waiting, ring_capacity};
+ghost use Rattle.std.specs.Prelude.{◌≡◌, ◌<◌, ◌≤◌, [], length, Some, MatchResult, codes, slice_index_or, slice_set};
+ghost use Rattle.queue.specs.Queues.{Puts, Takes};
+ghost use Rattle.queue.specs.Rings.{FitsRing, Start, Next, OneWritten, records_of, ring_waiting, ring_capacity};
 
 use crate::meaning::{Full, Queue};
 use message::Message;
+use std::error::Error;
+use std::fmt;
 
 // The host's memory has fewer than 2 records or more than 4,096.
 #[derive(Clone, Copy, PartialEq, Eq, Debug)]
 pub struct WrongSize;
 
-impl WrongSize {
-    // The number of this refusal.
-    pub fn number(self) -> u8
-        ensures { result ≡ 2 }
-    {
+// The number of this refusal.
+impl From<WrongSize> for u8 {
+    ghost from_gives = { λ _ n. n ≡ 2 };
+
+    fn from(_refusal: WrongSize) -> u8 {
         REFUSAL
     }
 }
 
 const REFUSAL: u8 = 2;
 
+impl fmt::Display for WrongSize {
+    ghost output = { λ _. Some (codes "a ring stands on 2 to 4,096 records") };
+
+    fn fmt<W: fmt::Write>(&self, f: &mut fmt::Formatter<W>) -> fmt::Result {
+        f.write_str("a ring stands on 2 to 4,096 records")
+    }
+}
+
+impl Error for WrongSize {}
+
 const LARGEST: usize = 4096;
 
 // The first record, the second and the rest, so that there are two by the type; where the ring begins, and how many wait.
+// A head and a count, since the records are memory that the host lends and a queue takes none of its own.
 #[derive(Drop)]
 pub struct RingQueue<'a> {
     first: &'a mut Message,
@@ -36,9 +49,9 @@ pub struct RingQueue<'a> {
 impl<'a> RingQueue<'a> {
     // Whether these records can be lent to a ring. It only looks at their number.
     pub fn fits(records: &[Message]) -> Result<(), WrongSize>
-        ensures { elim result [ Ok _ ↦ (2 ≤ length records.now) × (length records.now ≤ 4096) | Err _ ↦ (2 ≤ length records.now → length records.now ≤ 4096 → ⊥) ] }
+        ensures { MatchResult result (λ _. FitsRing (length records.now)) (λ _. ¬ FitsRing (length records.now)) }
     {
-        if records.len() < 2 || records.len() > LARGEST {
+        if !(2..=LARGEST).contains(&records.len()) {
             return Err(WrongSize);
         }
         Ok(())
@@ -46,17 +59,15 @@ impl<'a> RingQueue<'a> {
 
     // An empty queue on these records.
     pub fn new(records: &'a mut [Message]) -> Result<RingQueue<'a>, WrongSize>
-        ensures { elim result [ Ok q ↦ (records_of q ≡ records.old) × (ring_waiting q ≡ []) × (2 ≤ length records.old) × (length records.old ≤ 4096) | Err _ ↦ (2 ≤ length records.old → length records.old ≤ 4096 → ⊥) ] }
+        ensures { MatchResult result
+            (λ q. (records_of q ≡ records.old) × (ring_waiting q ≡ []) × FitsRing (length records.old))
+            (λ _. ¬ FitsRing (length records.old)) }
     {
         if records.len() > LARGEST {
             return Err(WrongSize);
         }
-        let Some((first, others)) = records.split_first_mut() else {
-            return Err(WrongSize);
-        };
-        let Some((second, rest)) = others.split_first_mut() else {
-            return Err(WrongSize);
-        };
+        let (first, others) = records.split_first_mut().ok_or(WrongSize)?;
+        let (second, rest) = others.split_first_mut().ok_or(WrongSize)?;
         Ok(RingQueue {
             first,
             second,
@@ -128,16 +139,22 @@ fn next_of(head: usize, count: usize, size: usize) -> usize
 }
 
 impl Queue for RingQueue<'_> {
+    ghost use Rattle.std.proofs.Common.{rules};
+    ghost use Rattle.std.proofs.lemmas.List.{length-append, length-take, length-drop};
+
     ghost waiting = { ring_waiting };
 
     ghost capacity = { ring_capacity };
 
+    ghost bounds = { Prim.search (rules, length-append, length-take, length-drop) };
+
     // Writes one of the host's records, or none where it is refused.
     fn put(&mut self, message: Message) -> Result<(), Full>
-        ensures bounds { Bounds (ring_waiting self.old) (ring_capacity self.old) }
         ensures kept { ring_capacity self.new ≡ ring_capacity self.old }
-        ensures cases { elim result [ Ok _ ↦ (length (ring_waiting self.old) < ring_capacity self.old) × (ring_waiting self.new ≡ ring_waiting self.old ++ message ∷ []) | Err _ ↦ (length (ring_waiting self.old) ≡ ring_capacity self.old) × (self.new ≡ self.old) ] }
-        ensures records { elim result [ Ok _ ↦ OneWritten (records_of self.old) message (records_of self.new) | Err _ ↦ records_of self.new ≡ records_of self.old ] }
+        ensures cases { Puts ring_waiting ring_capacity message self.old self.new result }
+        ensures records { MatchResult result
+            (λ _. OneWritten (records_of self.old) message (records_of self.new))
+            (λ _. records_of self.new ≡ records_of self.old) }
     {
         let size = self.size();
         if self.count >= size {
@@ -153,9 +170,8 @@ impl Queue for RingQueue<'_> {
 
     // Writes none of the host's records.
     fn take(&mut self) -> Option<Message>
-        ensures bounds { Bounds (ring_waiting self.old) (ring_capacity self.old) }
         ensures kept { ring_capacity self.new ≡ ring_capacity self.old }
-        ensures cases { elim result [ Some m ↦ ring_waiting self.old ≡ m ∷ ring_waiting self.new | None ↦ (ring_waiting self.old ≡ []) × (self.new ≡ self.old) ] }
+        ensures cases { Takes ring_waiting self.old self.new result }
         ensures records { records_of self.new ≡ records_of self.old }
     {
         if self.count == 0 {

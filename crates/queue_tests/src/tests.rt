@@ -38,7 +38,16 @@ fn wrong_sizes(rt: HostRuntime) {
     assert_eq!(rt; RingQueue::fits(&records[0..2]).err(), None);
     assert_eq!(rt; RingQueue::fits(&records[0..1]).err(), Some(WrongSize));
     assert_eq!(rt; RingQueue::fits(&records[0..0]).err(), Some(WrongSize));
-    assert_eq!(rt; WrongSize.number(), 2);
+    assert_eq!(rt; u8::from(WrongSize), 2);
+}
+
+#[test]
+fn refusals_print(rt: HostRuntime) -> Result<(), Fail> {
+    let full = Full.to_string(rt.alloc())?;
+    assert_eq!(rt; full.as_str(), "the queue is full");
+    let size = WrongSize.to_string(rt.alloc())?;
+    assert_eq!(rt; size.as_str(), "a ring stands on 2 to 4,096 records");
+    Ok(())
 }
 
 #[test]
@@ -72,8 +81,10 @@ fn overflow_of_an_overflow(rt: HostRuntime) -> Result<(), Fail> {
 fn held_by_value(rt: HostRuntime) -> Result<(), Fail> {
     let mut records = [numbered(0); 2];
     let mut small = Holder::new(RingQueue::new(&mut records)?);
+    assert!(rt; small.takes_more());
     assert_eq!(rt; small.send(numbered(1)), Ok(()));
     assert_eq!(rt; small.send(numbered(2)), Ok(()));
+    assert!(rt; !small.takes_more());
     assert_eq!(rt; small.send(numbered(3)), Err(Full));
     assert_eq!(rt; small.next(), Some(numbered(1)));
     let mut others = [numbered(0); 2];

@@ -14,7 +14,6 @@ returns c =
     let zs = w.first.now ∷ w.second.now ∷ w.rest.now in
     let long = length_ringed q.count q.head xs in
     record {
-      bounds = (omega arith, omega arith);
       kept = omega (arith, simp length-set at (ap length c.store.ensures.all));
       cases = (
         omega arith,

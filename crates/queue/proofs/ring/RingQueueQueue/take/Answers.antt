@@ -8,7 +8,6 @@ returns c =
     let xs = q.first.now ∷ q.second.now ∷ q.rest.now in
     let long = length_ringed q.count q.head xs in
     record {
-      bounds = (omega arith, omega arith);
       kept = refl;
       cases = take_at xs c.size-size.result _ _ _ _ _ (omega arith) c.start_of-head.ensures (omega arith) c.record-message.ensures;
       records = refl;
