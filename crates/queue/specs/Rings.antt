@@ -15,11 +15,7 @@ turned h xs = drop h xs ++ take h xs
 abbrev pub ringed : {X : Type 0} → List X → ℕ → ℕ → List X
 ringed records head count = take count (turned head records)
 
--- the place that is read first; a head past the end means the start
-abbrev pub Start : ℕ → ℕ → ℕ → Type 0
-Start head size r = (r < size) × (head < size → r ≡ head) × (size ≤ head → r ≡ 0)
-
--- the place after the last that waits
+-- the place that lies `count` after the head, round the end
 abbrev pub Next : ℕ → ℕ → ℕ → ℕ → Type 0
 Next head count size r = (r < size) × (head + count < size → r ≡ head + count) × (size ≤ head + count → r ≡ count - (size - head))
 

@@ -76,9 +76,9 @@ fn refill<Q: Queue>(below: &mut Q, own: &mut Places) -> bool
     ensures kept { Q.capacity below.new ≡ Q.capacity below.old }
     ensures cases { MatchBool result
         (Moved (Q.capacity below.old) (Q.waiting below.old) own.old.items
-            (Q.waiting below.new) own.new.items)
+        (Q.waiting below.new) own.new.items)
         ((below.new ≡ below.old) × (own.new ≡ own.old)
-            × Settled (Q.waiting below.old) (Q.capacity below.old) own.old.items) }
+        × Settled (Q.waiting below.old) (Q.capacity below.old) own.old.items) }
 {
     let Some(&first) = own.first() else {
         return false;

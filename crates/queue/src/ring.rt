@@ -1,7 +1,5 @@
 // A queue on records that the host lends, read in a ring.
-ghost use Rattle.std.specs.Prelude.{◌≡◌, ◌<◌, ◌≤◌, [], length, Some, MatchResult, codes, slice_index_or, slice_set};
-ghost use Rattle.queue.specs.Queues.{Puts, Takes};
-ghost use Rattle.queue.specs.Rings.{FitsRing, Start, Next, OneWritten, records_of, ring_waiting, ring_capacity};
+ghost use Rattle.std.specs.Prelude.{◌≡◌, ◌+◌, ◌<◌, ◌≤◌, [], length, Some, MatchResult, codes, slice_index_or, slice_set};
 
 use crate::meaning::{Full, Queue};
 use message::Message;
@@ -44,9 +42,13 @@ pub struct RingQueue<'a> {
     rest: &'a mut [Message],
     head: usize,
     count: usize,
+    ghost head_within: { head < 2 + length rest.now },
+    ghost count_within: { count ≤ 2 + length rest.now },
 }
 
 impl<'a> RingQueue<'a> {
+    ghost use Rattle.queue.specs.Rings.{FitsRing, Next, records_of, ring_waiting, ring_capacity};
+
     // Whether these records can be lent to a ring. It only looks at their number.
     pub fn fits(records: &[Message]) -> Result<(), WrongSize>
         ensures { MatchResult result (λ _. FitsRing (length records.now)) (λ _. ¬ FitsRing (length records.now)) }
@@ -84,11 +86,25 @@ impl<'a> RingQueue<'a> {
     }
 
     // How many wait.
+    #[tactic(auto, using(crate::proofs::Turning::length_ringed))]
     fn len(&self) -> usize
         ensures all { result ≡ length (ring_waiting self.now) }
         ensures most { result ≤ ring_capacity self.now }
     {
-        self.count.min(self.size())
+        self.count
+    }
+
+    // The place that lies these steps after the head, round the end of the records.
+    fn place(&self, steps: usize) -> usize
+        requires { steps < ring_capacity self.now }
+        ensures { Next self.now.head steps (length (records_of self.now)) result }
+    {
+        let left = self.size() - self.head;
+        if steps < left {
+            self.head + steps
+        } else {
+            steps - left
+        }
     }
 
     fn record(&self, place: usize) -> Message
@@ -116,31 +132,11 @@ impl<'a> RingQueue<'a> {
     }
 }
 
-// The place that is read first. A head past the end means the start, so every ring is sound.
-fn start_of(head: usize, size: usize) -> usize
-    requires { 2 ≤ size }
-    ensures { Start head size result }
-{
-    if head < size { head } else { 0 }
-}
-
-// The place after the last that waits.
-fn next_of(head: usize, count: usize, size: usize) -> usize
-    requires head { head < size }
-    requires count { count < size }
-    ensures { Next head count size result }
-{
-    let left = size - head;
-    if count < left {
-        head + count
-    } else {
-        count - left
-    }
-}
-
 impl Queue for RingQueue<'_> {
     ghost use Rattle.std.proofs.Common.{rules};
     ghost use Rattle.std.proofs.lemmas.List.{length-append, length-take, length-drop};
+    ghost use Rattle.queue.specs.Queues.{Puts, Takes};
+    ghost use Rattle.queue.specs.Rings.{OneWritten, records_of, ring_waiting, ring_capacity};
 
     ghost waiting = { ring_waiting };
 
@@ -156,14 +152,12 @@ impl Queue for RingQueue<'_> {
             (λ _. OneWritten (records_of self.old) message (records_of self.new))
             (λ _. records_of self.new ≡ records_of self.old) }
     {
-        let size = self.size();
-        if self.count >= size {
+        let count = self.count;
+        if count == self.size() {
             return Err(Full);
         }
-        let head = start_of(self.head, size);
-        let place = next_of(head, self.count, size);
+        let place = self.place(count);
         self.store(place, message);
-        self.head = head;
         self.count += 1;
         Ok(())
     }
@@ -177,12 +171,10 @@ impl Queue for RingQueue<'_> {
         if self.count == 0 {
             return None;
         }
-        let size = self.size();
-        let head = start_of(self.head, size);
-        let count = self.count.min(size);
+        let head = self.head;
         let message = self.record(head);
-        self.head = head + 1;
-        self.count = count - 1;
+        self.head = self.place(1);
+        self.count -= 1;
         Some(message)
     }
 
