@@ -23,7 +23,7 @@ impl<Q: Queue> Holder<Q> {
     pub fn send(&mut self, message: Message) -> Result<(), Full>
         ensures { MatchResult result
             (λ _. (Q.waiting self.new.queue ≡ Q.waiting self.old.queue ++ message ∷ [])
-                × (self.new.sent ≡ min (self.old.sent + 1) (2 ^ 40)))
+            × (self.new.sent ≡ min (self.old.sent + 1) (2 ^ 40)))
             (λ _. (self.new.queue ≡ self.old.queue) × (self.new.sent ≡ self.old.sent)) }
     {
         self.queue.put(message)?;
@@ -35,9 +35,9 @@ impl<Q: Queue> Holder<Q> {
     pub fn next(&mut self) -> Option<Message>
         ensures { MatchOption result
             ((Q.waiting self.old.queue ≡ []) × (self.new.queue ≡ self.old.queue)
-                × (self.new.sent ≡ self.old.sent))
+            × (self.new.sent ≡ self.old.sent))
             (λ first. (Q.waiting self.old.queue ≡ first ∷ Q.waiting self.new.queue)
-                × (self.new.sent ≡ self.old.sent)) }
+            × (self.new.sent ≡ self.old.sent)) }
     {
         self.queue.take()
     }
