@@ -9,7 +9,7 @@ use message::Message;
 type Places = ArrayVec<Message, 8>;
 
 // Keeps up to eight messages that the queue below has no place for. Its list is the list below, then its own.
-#[derive(Drop)]
+#[derive(Debug, Drop)]
 pub struct OverflowQueue<Q: Queue> {
     below: Q,
     own: Places,

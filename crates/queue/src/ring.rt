@@ -35,7 +35,7 @@ const LARGEST: usize = 4096;
 
 // The first record, the second and the rest, so that there are two by the type; where the ring begins, and how many wait.
 // A head and a count, since the records are memory that the host lends and a queue takes none of its own.
-#[derive(Drop)]
+#[derive(Debug, Drop)]
 pub struct RingQueue<'a> {
     first: &'a mut Message,
     second: &'a mut Message,
