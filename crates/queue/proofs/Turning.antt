@@ -38,11 +38,11 @@ set_next xs h c i y u m next =
     (cases_lt (h + c) (length xs))
 
 -- one more at the end, at the place after the last
-pub put_at : {X : Type 0} (xs zs : List X) (h c i : ℕ) (y : X) → h ≤ length xs → c < length xs → Next h c (length xs) i → zs ≡ set xs i y
-    → ringed zs h (c + 1) ≡ ringed xs h c ++ y ∷ []
-put_at xs zs h c i y u m next w =
+pub put_at : {X : Type 0} (xs : List X) (h c i : ℕ) (y : X) → h ≤ length xs → c < length xs → Next h c (length xs) i
+    → ringed (set xs i y) h (c + 1) ≡ ringed xs h c ++ y ∷ []
+put_at xs h c i y u m next =
     let k : c < length (turned h xs) = rw (length_turned h xs) m in
-    ap (λ ws. ringed ws h (c + 1)) w ∙ ap (take (c + 1)) (set_next xs h c i y u m next) ∙ take_more_set (turned h xs) c y k
+    ap (take (c + 1)) (set_next xs h c i y u m next) ∙ take_more_set (turned h xs) c y k
 
 -- the first goes, and the ring is read from the next place on
 take_first : {X : Type 0} (xs : List X) (h c : ℕ) (d : X) → h < length xs → c < length xs → ringed xs h (c + 1) ≡ get_or xs h d ∷ ringed xs (h + 1) c
@@ -55,11 +55,11 @@ take_first xs h c d l m =
     ap (take (c + 1)) p
     ∙ rw (add-one c) (ap (λ zs. get_or xs h d ∷ zs) (sym (take-append-le c ys (get_or xs h d ∷ []) n) ∙ ap (take c) (sym q)))
 
-pub take_at : {X : Type 0} (xs : List X) (h c i : ℕ) (x : X) → h < length xs → c < length xs → x ≡ get_or xs h x → Next h 1 (length xs) i
-    → ringed xs h (c + 1) ≡ x ∷ ringed xs i c
-take_at xs h c i x l m got next =
+pub take_at : {X : Type 0} (xs : List X) (h c i : ℕ) (d : X) → h < length xs → c < length xs → Next h 1 (length xs) i
+    → ringed xs h (c + 1) ≡ get_or xs h d ∷ ringed xs i c
+take_at xs h c i d l m next =
     let on : turned (h + 1) xs ≡ turned i xs =
     ⊎_elim (λ k. ap (λ j. turned j xs) (sym (next.1 k)))
     (λ k. let start : 0 ≡ i = omega (arith, next.2 k) in turned_end xs (h + 1) k ∙ ap (λ j. turned j xs) start)
     (cases_lt (h + 1) (length xs)) in
-    take_first xs h c x l m ∙ ap (λ z. z ∷ ringed xs (h + 1) c) (sym got) ∙ ap (λ ws. x ∷ take c ws) on
+    take_first xs h c d l m ∙ ap (λ ws. get_or xs h d ∷ take c ws) on

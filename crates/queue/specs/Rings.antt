@@ -1,5 +1,5 @@
 -- Records that are read in a ring.
-use Rattle.std.specs.Prelude.{◌≡◌, ℕ, ◌+◌, ◌-◌, ◌<◌, ◌≤◌, List, ◌∷◌, ◌++◌, length, take, drop, slice_set}
+use Rattle.std.specs.Prelude.{◌≡◌, ℕ, ◌+◌, ◌-◌, ◌<◌, ◌≤◌, List, ◌++◌, length, take, drop, slice_set}
 use Rattle.message.specs.declared.record.Message.{Message}
 use Rattle.queue.specs.declared.ring.RingQueue.{RingQueue}
 
@@ -25,10 +25,10 @@ OneWritten before x after = (i : ℕ) × (i < length before) × (after ≡ slice
 
 -- the host's records that a ring stands on
 abbrev pub records_of : RingQueue → List Message
-records_of q = q.first.now ∷ q.second.now ∷ q.rest.now
+records_of q = q.records.now
 
 abbrev pub ring_waiting : RingQueue → List Message
 ring_waiting q = ringed (records_of q) q.head q.count
 
 abbrev pub ring_capacity : RingQueue → ℕ
-ring_capacity q = 2 + length q.rest.now
+ring_capacity q = length (records_of q)

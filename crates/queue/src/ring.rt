@@ -1,5 +1,5 @@
 // A queue on records that the host lends, read in a ring.
-ghost use Rattle.std.specs.Prelude.{◌≡◌, ◌+◌, ◌<◌, ◌≤◌, [], length, Some, MatchResult, codes, slice_index_or, slice_set};
+ghost use Rattle.std.specs.Prelude.{◌≡◌, ◌<◌, ◌≤◌, [], length, Some, MatchResult, codes};
 
 use crate::meaning::{Full, Queue};
 use message::Message;
@@ -33,17 +33,15 @@ impl Error for WrongSize {}
 
 const LARGEST: usize = 4096;
 
-// The first record, the second and the rest, so that there are two by the type; where the ring begins, and how many wait.
-// A head and a count, since the records are memory that the host lends and a queue takes none of its own.
+// Where the ring begins in the records, and how many wait: the records are the host's, and a queue has none of its own.
 #[derive(Debug, Drop)]
 pub struct RingQueue<'a> {
-    first: &'a mut Message,
-    second: &'a mut Message,
-    rest: &'a mut [Message],
+    records: &'a mut [Message],
     head: usize,
     count: usize,
-    ghost head_within: { head < 2 + length rest.now },
-    ghost count_within: { count ≤ 2 + length rest.now },
+    ghost enough: { 2 ≤ length records.now },
+    ghost head_within: { head < length records.now },
+    ghost count_within: { count ≤ length records.now },
 }
 
 impl<'a> RingQueue<'a> {
@@ -65,31 +63,18 @@ impl<'a> RingQueue<'a> {
             (λ q. (records_of q ≡ records.old) × (ring_waiting q ≡ []) × FitsRing (length records.old))
             (λ _. ¬ FitsRing (length records.old)) }
     {
-        if records.len() > LARGEST {
-            return Err(WrongSize);
-        }
-        let (first, others) = records.split_first_mut().ok_or(WrongSize)?;
-        let (second, rest) = others.split_first_mut().ok_or(WrongSize)?;
+        Self::fits(records)?;
         Ok(RingQueue {
-            first,
-            second,
-            rest,
+            records,
             head: 0,
             count: 0,
         })
     }
 
-    fn size(&self) -> usize
-        ensures { result ≡ ring_capacity self.now }
-    {
-        2 + self.rest.len()
-    }
-
     // How many wait.
     #[tactic(auto, using(crate::proofs::Turning::length_ringed))]
     fn len(&self) -> usize
-        ensures all { result ≡ length (ring_waiting self.now) }
-        ensures most { result ≤ ring_capacity self.now }
+        ensures { result ≡ length (ring_waiting self.now) }
     {
         self.count
     }
@@ -97,37 +82,13 @@ impl<'a> RingQueue<'a> {
     // The place that lies these steps after the head, round the end of the records.
     fn place(&self, steps: usize) -> usize
         requires { steps < ring_capacity self.now }
-        ensures { Next self.now.head steps (length (records_of self.now)) result }
+        ensures { Next self.now.head steps (ring_capacity self.now) result }
     {
-        let left = self.size() - self.head;
+        let left = self.records.len() - self.head;
         if steps < left {
             self.head + steps
         } else {
             steps - left
-        }
-    }
-
-    fn record(&self, place: usize) -> Message
-        requires { place < ring_capacity self.now }
-        ensures { result ≡ slice_index_or (records_of self.now) place result }
-    {
-        match place {
-            0 => *self.first,
-            1 => *self.second,
-            _ => self.rest[place - 2],
-        }
-    }
-
-    fn store(&mut self, place: usize, message: Message)
-        requires { place < ring_capacity self.old }
-        ensures all { records_of self.new ≡ slice_set (records_of self.old) place message }
-        ensures head { self.new.head ≡ self.old.head }
-        ensures count { self.new.count ≡ self.old.count }
-    {
-        match place {
-            0 => *self.first = message,
-            1 => *self.second = message,
-            _ => self.rest[place - 2] = message,
         }
     }
 }
@@ -153,11 +114,11 @@ impl Queue for RingQueue<'_> {
             (λ _. records_of self.new ≡ records_of self.old) }
     {
         let count = self.count;
-        if count == self.size() {
+        if count == self.records.len() {
             return Err(Full);
         }
         let place = self.place(count);
-        self.store(place, message);
+        self.records[place] = message;
         self.count += 1;
         Ok(())
     }
@@ -171,8 +132,7 @@ impl Queue for RingQueue<'_> {
         if self.count == 0 {
             return None;
         }
-        let head = self.head;
-        let message = self.record(head);
+        let message = self.records[self.head];
         self.head = self.place(1);
         self.count -= 1;
         Some(message)
@@ -183,6 +143,6 @@ impl Queue for RingQueue<'_> {
     }
 
     fn free(&self) -> usize {
-        (self.size() - self.len()).min(2)
+        (self.records.len() - self.len()).min(2)
     }
 }
