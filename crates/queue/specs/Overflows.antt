@@ -17,6 +17,6 @@ module _ {Q : Type 0} where
   abbrev pub SettledIn : (g : queue.Ghosts Q) → OverflowQueue Q g → Type 0
   SettledIn g o = Settled (g.waiting o.below) (g.capacity o.below) o.own.items
 
-  -- so it is of every one, since a queue that gets or gives a message restores it
+  -- this is so of every overflow queue, since it is a part of the type
   pub settled_in : (g : queue.Ghosts Q) (o : OverflowQueue Q g) → SettledIn g o
   settled_in g o = o.settled

@@ -46,5 +46,6 @@ pub trait Queue {
     fn free(&self) -> usize
         ensures { result ≡ min 2 (capacity self.now - length (waiting self.now)) };
 
+    // What holds of every queue, whatever was done to it.
     ghost bounds: { (s : Self) → Bounds (waiting s) (capacity s) };
 }

@@ -6,6 +6,7 @@ use crate::meaning::{Full, Queue};
 use arrayvec::ArrayVec;
 use message::Message;
 
+// They lie in the queue itself: nothing is allocated.
 type Places = ArrayVec<Message, 8>;
 
 // Keeps up to eight messages that the queue below has no place for. Its list is the list below, then its own.

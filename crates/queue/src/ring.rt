@@ -33,7 +33,8 @@ impl Error for WrongSize {}
 
 const LARGEST: usize = 4096;
 
-// Where the ring begins in the records, and how many wait: the records are the host's, and a queue has none of its own.
+// The host's records, where the ring begins in them, and how many wait.
+// No `VecDeque`, since the host lends the records and a queue takes no memory of its own.
 #[derive(Debug, Drop)]
 pub struct RingQueue<'a> {
     records: &'a mut [Message],
