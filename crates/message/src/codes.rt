@@ -5,18 +5,20 @@ ghost use Rattle.message.specs.Codes.{carrier_number, carrier_of, kind_number, k
 use std::error::Error;
 
 // The call message that carries the supplementary service.
-#[derive(Clone, Copy, PartialEq, Eq, Debug)]
+#[derive(Clone, Copy, PartialEq, Eq, Debug, Default)]
 pub enum Carrier {
     Setup,
     Alerting,
     Connect,
     Facility,
+    #[default]
     ReleaseComplete,
 }
 
 // What is attached to the carrier.
-#[derive(Clone, Copy, PartialEq, Eq, Debug)]
+#[derive(Clone, Copy, PartialEq, Eq, Debug, Default)]
 pub enum Kind {
+    #[default]
     Nothing,
     Invoke,
     Result,

@@ -3,7 +3,8 @@ use crate::codes::{Carrier, ErrorCode, Kind, Operation};
 use std::error::Error;
 
 // One signalling message. A number, identity or address that does not apply is 0.
-#[derive(Clone, Copy, PartialEq, Eq, Debug)]
+// The default is the bare RELEASE COMPLETE, which stands in a place that holds nothing.
+#[derive(Clone, Copy, PartialEq, Eq, Debug, Default)]
 pub struct Message {
     pub carrier: Carrier,
     pub kind: Kind,

@@ -1,4 +1,5 @@
 pub mod Bounds
+pub mod Queues
 pub mod Rings
 pub mod Spills
 pub mod Overflows

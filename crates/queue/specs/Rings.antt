@@ -1,7 +1,11 @@
 -- Records that are read in a ring.
-use Rattle.std.specs.Prelude.{◌≡◌, ℕ, ◌+◌, ◌-◌, ◌<◌, ◌≤◌, List, ◌∷◌, ◌++◌, length, take, drop, slice_set}
+use Rattle.std.specs.Prelude.{◌≡◌, ℕ, ◌+◌, ◌-◌, ◌<◌, ◌≤◌, List, ◌++◌, length, take, drop, slice_set}
 use Rattle.message.specs.declared.record.Message.{Message}
 use Rattle.queue.specs.declared.ring.RingQueue.{RingQueue}
+
+-- how many records a ring can stand on
+abbrev pub FitsRing : ℕ → Type 0
+FitsRing n = (2 ≤ n) × (n ≤ 4096)
 
 -- the records from place h on, and then from the start
 abbrev pub turned : {X : Type 0} → ℕ → List X → List X
@@ -11,11 +15,7 @@ turned h xs = drop h xs ++ take h xs
 abbrev pub ringed : {X : Type 0} → List X → ℕ → ℕ → List X
 ringed records head count = take count (turned head records)
 
--- the place that is read first; a head past the end means the start
-abbrev pub Start : ℕ → ℕ → ℕ → Type 0
-Start head size r = (r < size) × (head < size → r ≡ head) × (size ≤ head → r ≡ 0)
-
--- the place after the last that waits
+-- the place that lies `count` after the head, round the end
 abbrev pub Next : ℕ → ℕ → ℕ → ℕ → Type 0
 Next head count size r = (r < size) × (head + count < size → r ≡ head + count) × (size ≤ head + count → r ≡ count - (size - head))
 
@@ -25,10 +25,10 @@ OneWritten before x after = (i : ℕ) × (i < length before) × (after ≡ slice
 
 -- the host's records that a ring stands on
 abbrev pub records_of : RingQueue → List Message
-records_of q = q.first.now ∷ q.second.now ∷ q.rest.now
+records_of q = q.records.now
 
 abbrev pub ring_waiting : RingQueue → List Message
 ring_waiting q = ringed (records_of q) q.head q.count
 
 abbrev pub ring_capacity : RingQueue → ℕ
-ring_capacity q = 2 + length q.rest.now
+ring_capacity q = length (records_of q)

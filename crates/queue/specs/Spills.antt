@@ -1,11 +1,6 @@
--- The eight places of an overflow queue.
-use Rattle.std.specs.Prelude.{◌≡◌, ℕ, ◌<◌, List, [], ◌∷◌, ◌++◌, length, take}
+-- The own places of an overflow queue, by the list of the queue below.
+use Rattle.std.specs.Prelude.{◌≡◌, ℕ, ◌<◌, List, [], ◌∷◌, ◌++◌, length}
 use Rattle.message.specs.declared.record.Message.{Message}
-use Rattle.queue.specs.declared.spill.Spill.{Spill}
-
--- the messages that are held there
-abbrev pub held : Spill → List Message
-held s = take s.count s.places
 
 -- the own places are used only while the queue below is full
 abbrev pub Settled : List Message → ℕ → List Message → Type 0

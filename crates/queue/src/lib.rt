@@ -4,7 +4,6 @@
 pub mod meaning;
 pub mod overflow;
 pub mod ring;
-mod spill;
 
 pub use meaning::{Full, Queue};
 pub use overflow::OverflowQueue;

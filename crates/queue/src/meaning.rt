@@ -1,13 +1,26 @@
 // What a queue means.
-ghost use Rattle.std.specs.Prelude.{◌≡◌, ℕ, ◌-◌, ◌<◌, min, List, [], ◌∷◌, ◌++◌, length, Some, None, Ok, Err, nat_lt};
+ghost use Rattle.std.specs.Prelude.{◌≡◌, ℕ, ◌-◌, min, List, length, Some, codes, nat_lt};
 ghost use Rattle.message.specs.declared.record.Message.{Message};
 ghost use Rattle.queue.specs.Bounds.{Bounds};
+ghost use Rattle.queue.specs.Queues.{Puts, Takes};
 
 use message::Message;
+use std::error::Error;
+use std::fmt;
 
 // As many messages wait as the queue has capacity.
 #[derive(Clone, Copy, PartialEq, Eq, Debug)]
 pub struct Full;
+
+impl fmt::Display for Full {
+    ghost output = { λ _. Some (codes "the queue is full") };
+
+    fn fmt<W: fmt::Write>(&self, f: &mut fmt::Formatter<W>) -> fmt::Result {
+        f.write_str("the queue is full")
+    }
+}
+
+impl Error for Full {}
 
 // A list of waiting messages, and a capacity of at least 2 that never changes and that the list never passes.
 pub trait Queue {
@@ -17,23 +30,22 @@ pub trait Queue {
 
     // Adds at the end. It is refused, without change, exactly when as many wait as the capacity.
     fn put(&mut self, message: Message) -> Result<(), Full>
-        ensures bounds { Bounds (waiting self.old) (capacity self.old) }
         ensures kept { capacity self.new ≡ capacity self.old }
-        ensures cases { elim result [ Ok _ ↦ (length (waiting self.old) < capacity self.old) × (waiting self.new ≡ waiting self.old ++ message ∷ []) | Err _ ↦ (length (waiting self.old) ≡ capacity self.old) × (self.new ≡ self.old) ] };
+        ensures cases { Puts waiting capacity message self.old self.new result };
 
     // Removes and gives the first, or none exactly when none waits.
     fn take(&mut self) -> Option<Message>
-        ensures bounds { Bounds (waiting self.old) (capacity self.old) }
         ensures kept { capacity self.new ≡ capacity self.old }
-        ensures cases { elim result [ Some m ↦ waiting self.old ≡ m ∷ waiting self.new | None ↦ (waiting self.old ≡ []) × (self.new ≡ self.old) ] };
+        ensures cases { Takes waiting self.old self.new result };
 
     // Whether a message waits.
     fn has_waiting(&self) -> bool
-        ensures bounds { Bounds (waiting self.now) (capacity self.now) }
-        ensures answer { result ≡ nat_lt 0 (length (waiting self.now)) };
+        ensures { result ≡ nat_lt 0 (length (waiting self.now)) };
 
     // How many places are free, 2 for two or more.
     fn free(&self) -> usize
-        ensures bounds { Bounds (waiting self.now) (capacity self.now) }
-        ensures answer { result ≡ min 2 (capacity self.now - length (waiting self.now)) };
+        ensures { result ≡ min 2 (capacity self.now - length (waiting self.now)) };
+
+    // What holds of every queue, whatever was done to it.
+    ghost bounds: { (s : Self) → Bounds (waiting s) (capacity s) };
 }

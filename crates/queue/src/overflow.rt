@@ -1,109 +1,94 @@
 // Eight places more, over any queue.
-ghost use Rattle.std.specs.Prelude.{◌≡◌, ℕ, ◌+◌, ◌-◌, ◌<◌, ◌≤◌, min, List, [], ◌∷◌, ◌++◌, length, Some, None, Ok, Err, MatchBool};
-ghost use Rattle.queue.specs.Bounds.{Bounds};
-ghost use Rattle.queue.specs.Overflows.{all_waiting, all_capacity, SettledIn};
-ghost use Rattle.queue.specs.Spills.{held, Settled, Moved};
+ghost use Rattle.std.specs.Prelude.{◌≡◌, ◌≤◌, length, MatchBool};
+ghost use Rattle.queue.specs.Spills.{Settled, Moved};
 
 use crate::meaning::{Full, Queue};
-use crate::spill::Spill;
+use arrayvec::ArrayVec;
 use message::Message;
 
+// They lie in the queue itself: nothing is allocated.
+type Places = ArrayVec<Message, 8>;
+
 // Keeps up to eight messages that the queue below has no place for. Its list is the list below, then its own.
-#[derive(Drop)]
-pub struct OverflowQueue<Q> {
+#[derive(Debug, Drop)]
+pub struct OverflowQueue<Q: Queue> {
     below: Q,
-    own: Spill,
+    own: Places,
+    ghost room: { length own.items ≤ 8 },
+    pub ghost settled: { Settled (Q.waiting below) (Q.capacity below) own.items },
 }
 
 impl<Q: Queue> OverflowQueue<Q> {
+    ghost use Rattle.std.specs.Prelude.{[]};
+    ghost use Rattle.queue.specs.Overflows.{SettledIn};
+
     pub fn new(below: Q) -> OverflowQueue<Q>
         ensures below { result.below ≡ below }
-        ensures empty { held result.own ≡ [] }
+        ensures empty { result.own.items ≡ [] }
         ensures settled { SettledIn Q.Queue result }
     {
         OverflowQueue {
             below,
-            own: Spill::new(),
-        }
-    }
-
-    // Moves the first of its own down, if there is one and the queue below has a place for it; says whether it did.
-    fn refill(&mut self) -> bool
-        ensures most { length (held self.old.own) ≤ 8 }
-        ensures bounds { 0 < length (held self.old.own) → Bounds (Q.Queue.waiting self.old.below) (Q.Queue.capacity self.old.below) }
-        ensures kept { Q.Queue.capacity self.new.below ≡ Q.Queue.capacity self.old.below }
-        ensures cases { MatchBool result (Moved (Q.Queue.capacity self.old.below) (Q.Queue.waiting self.old.below) (held self.old.own) (Q.Queue.waiting self.new.below) (held self.new.own)) ((self.new ≡ self.old) × Settled (Q.Queue.waiting self.old.below) (Q.Queue.capacity self.old.below) (held self.old.own)) }
-    {
-        if self.own.len() == 0 {
-            return false;
-        }
-        let first = self.own.first();
-        match self.below.put(first) {
-            Ok(()) => {
-                let _ = self.own.shift();
-                true
-            }
-            Err(_) => false,
+            own: Places::new(),
         }
     }
 }
 
 impl<Q: Queue> Queue for OverflowQueue<Q> {
+    ghost use Rattle.std.proofs.Common.{rules};
+    ghost use Rattle.std.proofs.lemmas.List.{length-append};
+    ghost use Rattle.queue.specs.Overflows.{all_waiting, all_capacity};
+
     ghost waiting = { all_waiting Q.Queue };
 
     ghost capacity = { all_capacity Q.Queue };
 
-    // Below while nothing is held here, else behind what is held.
-    fn put(&mut self, message: Message) -> Result<(), Full>
-        ensures bounds { Bounds (all_waiting Q.Queue self.old) (all_capacity Q.Queue self.old) }
-        ensures kept { all_capacity Q.Queue self.new ≡ all_capacity Q.Queue self.old }
-        ensures cases { elim result [ Ok _ ↦ (length (all_waiting Q.Queue self.old) < all_capacity Q.Queue self.old) × (all_waiting Q.Queue self.new ≡ all_waiting Q.Queue self.old ++ message ∷ []) | Err _ ↦ (length (all_waiting Q.Queue self.old) ≡ all_capacity Q.Queue self.old) × (self.new ≡ self.old) ] }
-        ensures settled { SettledIn Q.Queue self.old → SettledIn Q.Queue self.new }
-    {
-        if self.own.len() == 0 {
-            match self.below.put(message) {
-                Ok(()) => {}
-                Err(_) => self.own.push(message),
-            }
-            return Ok(());
-        }
-        // Where the own places are in use the queue below is full, unless someone else emptied it: then its place goes first.
-        let _ = self.refill();
+    ghost bounds = { Prim.search (rules, length-append) };
+
+    // Below, or behind what is held here: while anything is, the queue below is full.
+    fn put(&mut self, message: Message) -> Result<(), Full> {
         if self.own.is_full() {
             return Err(Full);
         }
-        self.own.push(message);
+        if self.below.put(message).is_err() {
+            self.own.push(message);
+        }
         Ok(())
     }
 
     // From below; the first of the own then moves into the place that came free.
-    fn take(&mut self) -> Option<Message>
-        ensures bounds { Bounds (all_waiting Q.Queue self.old) (all_capacity Q.Queue self.old) }
-        ensures kept { all_capacity Q.Queue self.new ≡ all_capacity Q.Queue self.old }
-        ensures cases { elim result [ Some m ↦ all_waiting Q.Queue self.old ≡ m ∷ all_waiting Q.Queue self.new | None ↦ (all_waiting Q.Queue self.old ≡ []) × (self.new ≡ self.old) ] }
-        ensures settled { SettledIn Q.Queue self.old → SettledIn Q.Queue self.new }
-    {
-        match self.below.take() {
-            Some(message) => {
-                let _ = self.refill();
-                Some(message)
-            }
-            None => {
-                if self.own.len() == 0 {
-                    return None;
-                }
-                Some(self.own.shift())
-            }
-        }
+    fn take(&mut self) -> Option<Message> {
+        let message = self.below.take()?;
+        refill(&mut self.below, &mut self.own);
+        Some(message)
     }
 
     fn has_waiting(&self) -> bool {
-        let held = self.own.len();
-        self.below.has_waiting() || held > 0
+        self.below.has_waiting() || !self.own.is_empty()
     }
 
     fn free(&self) -> usize {
-        let left = self.own.left();
-        (self.below.free() + left).min(2)
+        (self.below.free() + self.own.remaining_capacity()).min(2)
+    }
+}
+
+// Moves the first of the own down, if there is one and the queue below has a place for it; says whether it did.
+fn refill<Q: Queue>(below: &mut Q, own: &mut Places) -> bool
+    ensures kept { Q.capacity below.new ≡ Q.capacity below.old }
+    ensures cases { MatchBool result
+        (Moved (Q.capacity below.old) (Q.waiting below.old) own.old.items
+        (Q.waiting below.new) own.new.items)
+        ((below.new ≡ below.old) × (own.new ≡ own.old)
+        × Settled (Q.waiting below.old) (Q.capacity below.old) own.old.items) }
+{
+    let Some(&first) = own.first() else {
+        return false;
+    };
+    match below.put(first) {
+        Ok(()) => {
+            own.remove(0);
+            true
+        }
+        Err(_) => false,
     }
 }

@@ -1,6 +1,6 @@
 // Any queue beside a plain list.
 use message::{Carrier, Kind, Message, Operation};
-use queue::Queue;
+use queue::{Full, Queue};
 use std::alloc::Global;
 use std::collections::VecDeque;
 use std::process::Abort;
@@ -19,87 +19,75 @@ pub fn numbered(number: u16) -> Message {
     }
 }
 
-// What the two questions answer.
-fn asked<Q: Queue>(rt: &impl Abort, queue: &Q, plain: &VecDeque<u16>, capacity: usize) {
-    assert_eq!(rt; queue.has_waiting(), !plain.is_empty());
-    assert_eq!(rt; queue.free(), capacity.saturating_sub(plain.len()).min(2));
+// A queue and the numbers that should wait in it.
+#[derive(Drop)]
+pub struct Beside<Q> {
+    queue: Q,
+    plain: VecDeque<u16>,
+    capacity: usize,
 }
 
-// One put on both.
-fn put<Q: Queue>(
-    rt: &impl Abort,
-    queue: &mut Q,
-    plain: &mut VecDeque<u16>,
-    capacity: usize,
-    number: u16,
-) -> Result<(), Fail> {
-    match queue.put(numbered(number)) {
-        Ok(()) => {
-            assert!(rt; plain.len() < capacity);
-            plain.push_back(number)?;
+impl<Q: Queue> Beside<Q> {
+    // An empty queue of this capacity.
+    pub fn new(queue: Q, capacity: usize, heap: Global) -> Beside<Q> {
+        Beside {
+            queue,
+            plain: VecDeque::new(heap),
+            capacity,
         }
-        Err(_) => assert!(rt; plain.len() == capacity),
     }
-    asked(rt, queue, plain, capacity);
-    Ok(())
-}
 
-// One take from both.
-fn take<Q: Queue>(
-    rt: &impl Abort,
-    queue: &mut Q,
-    plain: &mut VecDeque<u16>,
-    capacity: usize,
-) -> Result<(), Fail> {
-    match (queue.take(), plain.pop_front()) {
-        (Some(message), Some(number)) => assert_eq!(rt; message, numbered(number)),
-        (None, None) => {}
-        _ => return Err(Fail::new("one of the two is empty")),
+    // What the two questions answer.
+    fn asked(&self, rt: &impl Abort) {
+        let left = self.capacity.saturating_sub(self.plain.len());
+        assert_eq!(rt; self.queue.has_waiting(), !self.plain.is_empty());
+        assert_eq!(rt; self.queue.free(), left.min(2));
     }
-    asked(rt, queue, plain, capacity);
-    Ok(())
-}
 
-// Fills and empties the queue `rounds` times, each time with `most` puts and then as many takes.
-pub fn fill_and_empty<Q: Queue>(
-    rt: &impl Abort,
-    heap: Global,
-    queue: &mut Q,
-    capacity: usize,
-    most: u16,
-    rounds: u16,
-) -> Result<(), Fail> {
-    let mut plain = VecDeque::new(heap);
-    for round in 0..rounds {
-        for i in 0..most {
-            put(rt, queue, &mut plain, capacity, round.wrapping_add(i))?;
-        }
-        for _ in 0..most {
-            take(rt, queue, &mut plain, capacity)?;
-        }
-        assert!(rt; plain.is_empty());
-    }
-    Ok(())
-}
-
-// Puts and takes in an order that looks random, many times round.
-pub fn mixed<Q: Queue>(
-    rt: &impl Abort,
-    heap: Global,
-    queue: &mut Q,
-    capacity: usize,
-    turns: u32,
-) -> Result<(), Fail> {
-    let mut plain = VecDeque::new(heap);
-    let mut state: u32 = 12345;
-    for _ in 0..turns {
-        state = state.wrapping_mul(1664525).wrapping_add(1013904223);
-        let number = (state >> 16) as u16;
-        if (state >> 8) & 7 < 4 + (state >> 30) % 2 {
-            put(rt, queue, &mut plain, capacity, number)?;
+    // One put on both.
+    fn put(&mut self, rt: &impl Abort, number: u16) -> Result<(), Fail> {
+        if self.plain.len() < self.capacity {
+            assert_eq!(rt; self.queue.put(numbered(number)), Ok(()));
+            self.plain.push_back(number)?;
         } else {
-            take(rt, queue, &mut plain, capacity)?;
+            assert_eq!(rt; self.queue.put(numbered(number)), Err(Full));
         }
+        self.asked(rt);
+        Ok(())
     }
-    Ok(())
+
+    // One take from both.
+    fn take(&mut self, rt: &impl Abort) {
+        assert_eq!(rt; self.queue.take(), self.plain.pop_front().map(numbered));
+        self.asked(rt);
+    }
+
+    // Fills and empties the queue `rounds` times, each time with `most` puts and then as many takes.
+    pub fn fill_and_empty(&mut self, rt: &impl Abort, most: u16, rounds: u16) -> Result<(), Fail> {
+        for round in 0..rounds {
+            for i in 0..most {
+                self.put(rt, round.wrapping_add(i))?;
+            }
+            for _ in 0..most {
+                self.take(rt);
+            }
+            assert!(rt; self.plain.is_empty());
+        }
+        Ok(())
+    }
+
+    // Puts and takes in an order that looks random, many times round.
+    pub fn mixed(&mut self, rt: &impl Abort, turns: u32) -> Result<(), Fail> {
+        let mut state: u32 = 12345;
+        for _ in 0..turns {
+            state = state.wrapping_mul(1664525).wrapping_add(1013904223);
+            let number = (state >> 16) as u16;
+            if (state >> 8) & 7 < 4 + (state >> 30) % 2 {
+                self.put(rt, number)?;
+            } else {
+                self.take(rt);
+            }
+        }
+        Ok(())
+    }
 }

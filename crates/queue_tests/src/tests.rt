@@ -1,5 +1,5 @@
 use crate::holder::Holder;
-use crate::plain::{fill_and_empty, mixed, numbered};
+use crate::plain::{Beside, numbered};
 use message::Message;
 use queue::{Full, OverflowQueue, Queue, RingQueue, WrongSize};
 use std::test::Fail;
@@ -7,38 +7,47 @@ use std::test::Fail;
 #[test]
 fn smallest_ring(rt: HostRuntime) -> Result<(), Fail> {
     let mut records = [numbered(0); 2];
-    let mut ring = RingQueue::new(&mut records)?;
-    fill_and_empty(&rt, rt.alloc(), &mut ring, 2, 3, 50)?;
-    mixed(&rt, rt.alloc(), &mut ring, 2, 2000)
+    let mut ring = Beside::new(RingQueue::new(&mut records)?, 2, rt.alloc());
+    ring.fill_and_empty(&rt, 3, 50)?;
+    ring.mixed(&rt, 2000)
 }
 
 #[test]
 fn odd_ring(rt: HostRuntime) -> Result<(), Fail> {
     let mut records = [numbered(0); 7];
-    let mut ring = RingQueue::new(&mut records)?;
-    fill_and_empty(&rt, rt.alloc(), &mut ring, 7, 5, 50)?;
-    mixed(&rt, rt.alloc(), &mut ring, 7, 5000)
+    let mut ring = Beside::new(RingQueue::new(&mut records)?, 7, rt.alloc());
+    ring.fill_and_empty(&rt, 5, 50)?;
+    ring.mixed(&rt, 5000)
 }
 
 // The largest ring, filled past its end and emptied, the second time from the middle of its records.
 #[test]
 fn largest_ring(rt: HostRuntime) -> Result<(), Fail> {
     let mut records = [numbered(0); 4096];
-    let mut ring = RingQueue::new(&mut records)?;
-    fill_and_empty(&rt, rt.alloc(), &mut ring, 4096, 4100, 2)?;
-    fill_and_empty(&rt, rt.alloc(), &mut ring, 4096, 2000, 3)?;
-    fill_and_empty(&rt, rt.alloc(), &mut ring, 4096, 4100, 1)
+    let mut ring = Beside::new(RingQueue::new(&mut records)?, 4096, rt.alloc());
+    ring.fill_and_empty(&rt, 4100, 2)?;
+    ring.fill_and_empty(&rt, 2000, 3)?;
+    ring.fill_and_empty(&rt, 4100, 1)
 }
 
 #[test]
 fn wrong_sizes(rt: HostRuntime) {
     let records = [numbered(0); 4097];
-    assert_eq!(rt; RingQueue::fits(&records).err(), Some(WrongSize));
-    assert_eq!(rt; RingQueue::fits(&records[0..4096]).err(), None);
-    assert_eq!(rt; RingQueue::fits(&records[0..2]).err(), None);
-    assert_eq!(rt; RingQueue::fits(&records[0..1]).err(), Some(WrongSize));
-    assert_eq!(rt; RingQueue::fits(&records[0..0]).err(), Some(WrongSize));
-    assert_eq!(rt; WrongSize.number(), 2);
+    assert_eq!(rt; RingQueue::fits(&records), Err(WrongSize));
+    assert_eq!(rt; RingQueue::fits(&records[0..4096]), Ok(()));
+    assert_eq!(rt; RingQueue::fits(&records[0..2]), Ok(()));
+    assert_eq!(rt; RingQueue::fits(&records[0..1]), Err(WrongSize));
+    assert_eq!(rt; RingQueue::fits(&records[0..0]), Err(WrongSize));
+    assert_eq!(rt; u8::from(WrongSize), 2);
+}
+
+#[test]
+fn refusals_print(rt: HostRuntime) -> Result<(), Fail> {
+    let full = Full.to_string(rt.alloc())?;
+    assert_eq!(rt; full.as_str(), "the queue is full");
+    let size = WrongSize.to_string(rt.alloc())?;
+    assert_eq!(rt; size.as_str(), "a ring stands on 2 to 4,096 records");
+    Ok(())
 }
 
 #[test]
@@ -54,17 +63,19 @@ fn wrong_sizes_refused(rt: HostRuntime) {
 #[test]
 fn overflow_of_a_ring(rt: HostRuntime) -> Result<(), Fail> {
     let mut records = [numbered(0); 2];
-    let mut queue = OverflowQueue::new(RingQueue::new(&mut records)?);
-    fill_and_empty(&rt, rt.alloc(), &mut queue, 10, 12, 20)?;
-    mixed(&rt, rt.alloc(), &mut queue, 10, 5000)
+    let ring = RingQueue::new(&mut records)?;
+    let mut queue = Beside::new(OverflowQueue::new(ring), 10, rt.alloc());
+    queue.fill_and_empty(&rt, 12, 20)?;
+    queue.mixed(&rt, 5000)
 }
 
 #[test]
 fn overflow_of_an_overflow(rt: HostRuntime) -> Result<(), Fail> {
     let mut records = [numbered(0); 3];
-    let mut queue = OverflowQueue::new(OverflowQueue::new(RingQueue::new(&mut records)?));
-    fill_and_empty(&rt, rt.alloc(), &mut queue, 19, 21, 20)?;
-    mixed(&rt, rt.alloc(), &mut queue, 19, 5000)
+    let small = OverflowQueue::new(RingQueue::new(&mut records)?);
+    let mut queue = Beside::new(OverflowQueue::new(small), 19, rt.alloc());
+    queue.fill_and_empty(&rt, 21, 20)?;
+    queue.mixed(&rt, 5000)
 }
 
 // A holder has any of them by value.
@@ -72,8 +83,10 @@ fn overflow_of_an_overflow(rt: HostRuntime) -> Result<(), Fail> {
 fn held_by_value(rt: HostRuntime) -> Result<(), Fail> {
     let mut records = [numbered(0); 2];
     let mut small = Holder::new(RingQueue::new(&mut records)?);
+    assert!(rt; small.takes_more());
     assert_eq!(rt; small.send(numbered(1)), Ok(()));
     assert_eq!(rt; small.send(numbered(2)), Ok(()));
+    assert!(rt; !small.takes_more());
     assert_eq!(rt; small.send(numbered(3)), Err(Full));
     assert_eq!(rt; small.next(), Some(numbered(1)));
     let mut others = [numbered(0); 2];

@@ -1,15 +1,11 @@
-use Rattle.std.proofs.Common.{◌∷◌, refl, arith}
-use Rattle.queue.proofs.Turning.{length_ringed, take_at}
+use Rattle.std.proofs.Common.{◌≡◌, ◌+◌, ◌-◌, ap, arith, ◌∙◌}
+use Rattle.queue.specs.Rings.{ringed}
+use Rattle.queue.proofs.Turning.{take_at}
 use Rattle.queue.proofs.ring.RingQueueQueue.take.Goals as goal
 
-pub returns : goal.returns
-returns c =
+pub returns-clause-cases : goal.returns-clause-cases
+returns-clause-cases c =
     let q = c.args.self.now in
-    let xs = q.first.now ∷ q.second.now ∷ q.rest.now in
-    let long = length_ringed q.count q.head xs in
-    record {
-      bounds = (omega arith, omega arith);
-      kept = refl;
-      cases = take_at xs c.size-size.result _ _ _ _ _ (omega arith) c.start_of-head.ensures (omega arith) c.record-message.ensures;
-      records = refl;
-    }
+    let some : q.count ≡ q.count - 1 + 1 = omega arith in
+    ap (ringed q.records.now q.head) some
+    ∙ take_at q.records.now _ _ _ _ (omega arith) (omega arith) c.place-self.ensures
