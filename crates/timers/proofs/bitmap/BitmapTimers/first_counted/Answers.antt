@@ -1,56 +1,23 @@
-use Rattle.std.proofs.Common.{ℕ, ◌-◌, ◌<◌, sym, refl, ap, ◌∙◌, subst, arith}
-use lib.Bits.{bit_and, and_le_l}
-use lib.Count.{count_trailing_zeros, ones, ones-le}
-use Rattle.timers.specs.Bitmaps.{bitmap_meant}
-use Rattle.timers.proofs.Digits.{lowest, cleared_less, cleared_ones}
-use Rattle.timers.proofs.Firsts.{Best, meant_none, best_start, best_keeps, best_takes, best_ends}
+use Rattle.std.proofs.Common.{◌<◌, get_or, refl, arith}
+use Rattle.std.specs.Prelude.{IfSome}
+use Rattle.timers.proofs.Firsts.{takes, keeps, first_found}
 use Rattle.timers.proofs.bitmap.BitmapTimers.first_counted.Goals as goal
-use Rattle.timers.proofs.bitmap.BitmapTimers.first_counted.Goals.{then-due-at, else-due-at}
+use Rattle.timers.proofs.bitmap.BitmapTimers.first_counted.Goals.{in_default-via-in-Some-best+else-due-deadline, in_default-via-in_default}
 
-pub returns-then-running-eq0 : goal.returns-then-running-eq0
-returns-then-running-eq0 c =
-    let none = c.if-running-eq0.true in
-    record {
-      first = λ k. ap (λ w. bitmap_meant w c.args.self.now.deadlines k) none ∙ meant_none c.args.self.now.deadlines k;
-      turns = omega (arith, ap ones none, ones-le 0 0 (omega arith));
-    }
+pub loop-key-preserved-then-due-deadline : goal.loop-key-preserved-then-due-deadline
+loop-key-preserved-then-due-deadline c =
+    let low = c.in-Some.ensures.steps in
+    let before = rw c.in-Some-best.is at c.loop-key.invariant.best in
+    record { best = keeps _ _ _ _ _ _ low _ refl before c.if-due-deadline.true; turns = omega (arith, low.ones_less) }
 
-pub loop-rest-init : goal.loop-rest-init
-loop-rest-init c =
-    let w = c.args.self.now.running in (
-      omega (arith, and_le_l w (w - 1)),
-      best_start w _ _ _ (omega arith) (omega arith) refl refl,
-      omega (arith, cleared_ones 64 w (omega arith) (omega arith)),
-    )
+pub loop-key-preserved : goal.loop-key-preserved
+loop-key-preserved c =
+    let low = c.in-Some.ensures.steps in
+    let sooner : IfSome c.loop-key.best (λ d. get_or c.args.self.now.deadlines c.in-Some.key.index 0 < d.deadline) =
+    elim c.in_default.branch [ in_default-via-in-Some-best+else-due-deadline w ↦ rw w.in-Some-best.is w.if-due-deadline.false | in_default-via-in_default w ↦ rw w.in_default.is tt ] in
+    record { best = takes _ _ _ _ _ _ low _ c.in-Some.key.below refl c.loop-key.invariant.best sooner; turns = omega (arith, low.ones_less) }
 
-pub overflow_add-turns : goal.overflow_add-turns
-overflow_add-turns c = omega (arith, c.loop-rest.invariant.2, ones-le 64 c.args.self.now.running (omega arith))
-
-pub bounds-self-next : goal.bounds-self-next
-bounds-self-next c = (lowest 64 c.loop-rest.rest (omega arith) c.loop-rest.invariant.0).0
-
-pub loop-rest-preserved : goal.loop-rest-preserved
-loop-rest-preserved c =
-    let w = c.args.self.now.running in
-    let dl = c.args.self.now.deadlines in
-    let rest = c.loop-rest.rest in
-    let less : bit_and rest (rest - 1) < rest = cleared_less rest (omega arith) in
-    let K : ℕ → Type 0 = λ k. Best w (bit_and rest (rest - 1)) k c.if-due-at.at dl in (
-      omega (arith, c.loop-rest.invariant.0),
-      elim c.if-due-at.branch [
-        | then-due-at v ↦ let A : ℕ → Type 0 = λ a. Best w (bit_and rest (rest - 1)) (count_trailing_zeros 64 rest) a dl in subst K (sym v.key-is) (subst A (sym v.at-is) (best_takes w rest _ _ _ _ dl c.loop-rest.invariant.1 (omega arith) c.loop-rest.invariant.0 refl refl v.if-due-at.true))
-        | else-due-at v ↦ let A : ℕ → Type 0 = λ a. Best w (bit_and rest (rest - 1)) c.loop-rest.key a dl in subst K (sym v.key-is) (subst A (sym v.at-is) (best_keeps w rest _ _ _ _ dl c.loop-rest.invariant.1 (omega arith) c.loop-rest.invariant.0 refl refl v.if-due-at.false))
-      ],
-      omega (arith, c.loop-rest.invariant.2, cleared_ones 64 rest (omega arith) c.loop-rest.invariant.0),
-    )
-
-pub returns : goal.returns
-returns c =
-    let w = c.args.self.now.running in
-    let dl = c.args.self.now.deadlines in
-    let P : ℕ → Type 0 = λ r. Best w r c.loop-rest.key c.loop-rest.at dl in
-    let done = c.loop-rest-test.false in
-    record {
-      first = best_ends w c.loop-rest.key c.loop-rest.at dl (subst P done c.loop-rest.invariant.1);
-      turns = omega (arith, c.loop-rest.invariant.2, ap ones done, ones-le 0 0 (omega arith));
-    }
+pub returns-clause-first : goal.returns-clause-first
+returns-clause-first c =
+    let before = rw c.in-None.ensures.steps.0 at c.loop-key.invariant.best in
+    first_found _ _ _ before
