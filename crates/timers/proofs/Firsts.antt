@@ -10,7 +10,7 @@ use lib.Bits.{bit_and, bit_or}
 use Rattle.std.proofs.lemmas.Bool.Decides.{nat_tests}
 use Rattle.std.proofs.lemmas.List.{get_or-set_same, get_or-set_other}
 use Rattle.std.proofs.lemmas.Nat.Bits.{bit_at-zero, bit_at_set_same, bit_at_set_other, bit_at_clear_same, bit_at_clear_other}
-use Rattle.timers.specs.Bitmaps.{bitmap_meant, IsLowest}
+use Rattle.timers.specs.Bitmaps.{bitmap_meant, IsLowest, Without}
 
 -- one digit and one deadline changed
 update_one : (w v : ℕ) (dl el : List ℕ) (key : ℕ) (o : Option ℕ) → bitmap_meant v el key ≡ o → ((k : ℕ) → k < 64 → k ≢ key → bit_at v k ≡ bit_at w k) → ((k : ℕ) → k ≢ key → get_or el k 0 ≡ get_or dl k 0) → bitmap_meant v el ≡ update eqb (bitmap_meant w dl) key o
@@ -33,15 +33,12 @@ pub record SoFar (w rest : ℕ) (best : Option Due) (dl : List ℕ) : Type 0 whe
   pub runs : IfSome best (λ d. bitmap_meant w dl d.key ≡ Some d.deadline)
   pub won : (k a : ℕ) → bitmap_meant w dl k ≡ Some a → (bit_at rest k ≡ 1) ⊎ IsSomeAnd best (λ d. NoLater d.key d.deadline k a)
 
-pub none_yet : (w : ℕ) (dl : List ℕ) → SoFar w w None dl
-none_yet w dl = record { later = λ k b. (b, tt); runs = tt; won = λ k a e. grind (arith, nat_tests) }
-
-module _ (w rest v : ℕ) (dl : List ℕ) (k at : ℕ) (low : IsLowest rest k v) where
+module _ (w rest v : ℕ) (dl : List ℕ) (k at : ℕ) (low : IsLowest rest k) (taken : Without rest k v) where
   rises : (i : ℕ) → bit_at v i ≡ 1 → (bit_at rest i ≡ 1) × (k < i)
-  rises i b = grind (arith, low.off, low.others i, low.least i)
+  rises i b = grind (arith, taken.off, taken.others i, low.least i)
 
   left : (i : ℕ) → bit_at rest i ≡ 1 → (bit_at v i ≡ 1) ⊎ (i ≡ k)
-  left i b = grind (arith, low.others i)
+  left i b = grind (arith, taken.others i)
 
   beaten : (best : Option Due) (i a : ℕ) → IfSome best (λ d. at < d.deadline) → IsSomeAnd best (λ d. NoLater d.key d.deadline i a) → NoLater k at i a
   beaten None i a m h = absurd h

@@ -7,12 +7,12 @@ use Rattle.timers.specs.HeapViews.{place_in, rank_in, Reordered}
 use Rattle.timers.proofs.Swapping.{exch_kept}
 
 -- over the ranks R and S by place, before and after; p is the parent
-rising_more : (R S : ℕ → ℕ) (n i p : ℕ) → p ≡ (i - 1) / 2 → 0 < i → i < n → ((x : ℕ) → S x ≡ R (exch i p x)) → R i < R p → Rising R n i → Rising S n p
+pub rising_more : (R S : ℕ → ℕ) (n i p : ℕ) → p ≡ (i - 1) / 2 → 0 < i → i < n → ((x : ℕ) → S x ≡ R (exch i p x)) → R i < R p → Rising R n i → Rising S n p
 unfolding exch
 rising_more R S n i p e a l s less h = search (rules, nat_tests)
 
 -- ch is the child that comes first
-sinking_more : (R S : ℕ → ℕ) (n i ch : ℕ) → i ≡ (ch - 1) / 2 → 0 < ch → ch < n → ((x : ℕ) → S x ≡ R (exch i ch x)) → R ch < R i → ((j : ℕ) → 0 < j → j < n → (j - 1) / 2 ≡ i → R ch ≤ R j) → Sinking R n i → Sinking S n ch
+pub sinking_more : (R S : ℕ → ℕ) (n i ch : ℕ) → i ≡ (ch - 1) / 2 → 0 < ch → ch < n → ((x : ℕ) → S x ≡ R (exch i ch x)) → R ch < R i → ((j : ℕ) → 0 < j → j < n → (j - 1) / 2 ≡ i → R ch ≤ R j) → Sinking R n i → Sinking S n ch
 unfolding exch
 sinking_more R S n i ch e a l s less least h = search (rules, nat_tests)
 
@@ -23,14 +23,8 @@ pub record Exchanged (h s : Heap) (i j : ℕ) : Type 0 where
   pub moved : (x : ℕ) → get_or s.links.keys x 0 ≡ get_or h.links.keys (exch i j x) 0
   pub placed : (k : ℕ) → k < 64 → get_or s.links.places k 0 ≡ exch i j (get_or h.links.places k 0)
 
-exchanged_ranks : (h s : Heap) (i j : ℕ) → Exchanged h s i j → (x : ℕ) → rank_in s x ≡ rank_in h (exch i j x)
+pub exchanged_ranks : (h s : Heap) (i j : ℕ) → Exchanged h s i j → (x : ℕ) → rank_in s x ≡ rank_in h (exch i j x)
 exchanged_ranks h s i j e x = ap (λ ats. rank ats (get_or s.links.keys x 0)) e.deadlines ∙ ap (rank h.deadlines) (e.moved x)
-
-pub rising_swap : (h s : Heap) (i p : ℕ) → Exchanged h s i p → p ≡ (i - 1) / 2 → 0 < i → i < h.count → rank_in h i < rank_in h p → Rising (rank_in h) h.count i → Rising (rank_in s) h.count p
-rising_swap h s i p x e a l less r = rising_more (rank_in h) (rank_in s) h.count i p e a l (exchanged_ranks h s i p x) less r
-
-pub sinking_swap : (h s : Heap) (i ch : ℕ) → Exchanged h s i ch → i ≡ (ch - 1) / 2 → 0 < ch → ch < h.count → rank_in h ch < rank_in h i → ((j : ℕ) → 0 < j → j < h.count → (j - 1) / 2 ≡ i → rank_in h ch ≤ rank_in h j) → Sinking (rank_in h) h.count i → Sinking (rank_in s) h.count ch
-sinking_swap h s i ch x e a l less least r = sinking_more (rank_in h) (rank_in s) h.count i ch e a l (exchanged_ranks h s i ch x) less least r
 
 -- an exchange below the count
 pub reordered_swap : (old h s : Heap) (i j : ℕ) → Exchanged h s i j → i < h.count → j < h.count → Reordered old h → Reordered old s

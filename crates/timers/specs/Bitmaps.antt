@@ -7,14 +7,17 @@ use Rattle.timers.specs.declared.key.Key.{Key}
 abbrev pub bitmap_meant : ℕ → List ℕ → ℕ → Option ℕ
 bitmap_meant w dl k = cond (nat_lt k 64 && bit_at w k == 1) (Some (slice_index dl k)) None
 
--- k is the lowest digit of w that is 1, and v is w without it
-pub record IsLowest (w k v : ℕ) : Type 0 where
+-- the digit k of w is 1, and none below it is
+pub record IsLowest (w k : ℕ) : Type 0 where
   pub on : bit_at w k ≡ 1
   pub least : (i : ℕ) → i < k → bit_at w i ≡ 0
+
+-- v is w without its digit k, which is 1
+pub record Without (w k v : ℕ) : Type 0 where
   pub off : bit_at v k ≡ 0
   pub others : (i : ℕ) → i ≢ k → bit_at v i ≡ bit_at w i
   pub ones_less : count_ones v + 1 ≡ count_ones w
 
 -- what is taken of a word w, of which v is left: none where no digit is 1
 abbrev pub TakesLowest : ℕ → Option Key → ℕ → Type 0
-TakesLowest w r v = MatchOption r ((w ≡ 0) × (v ≡ 0)) (λ key. IsLowest w key.index v)
+TakesLowest w r v = MatchOption r ((w ≡ 0) × (v ≡ 0)) (λ key. IsLowest w key.index × Without w key.index v)

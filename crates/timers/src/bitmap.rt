@@ -28,6 +28,12 @@ impl BitmapTimers {
         }
     }
 
+    fn running_keys(&self) -> RunningKeys
+        ensures { result.rest ≡ self.now.running }
+    {
+        RunningKeys { rest: self.running }
+    }
+
     // The first running key, and how many keys were looked at: as many as the word has ones.
     pub fn first_counted(&self) -> (Option<Due>, u32)
         ensures first { IsFirstDue (bitmap_meant self.now.running self.now.deadlines) result.0 }
@@ -35,7 +41,7 @@ impl BitmapTimers {
     {
         let mut best: Option<Due> = None;
         let mut turns = 0;
-        for key in (RunningKeys { rest: self.running }) {
+        for key in self.running_keys() {
             turns += 1;
             let deadline = self.deadlines[key.index];
             // keys rise, so that a later one wins only by a smaller deadline

@@ -1,7 +1,7 @@
 // Keys on their way up and down the heap.
 ghost use Rattle.std.specs.Prelude.{◌≡◌, ℕ, ◌+◌, ◌-◌, ◌*◌, ◌/◌, ◌<◌, ◌≤◌};
-ghost use Rattle.timers.specs.Heaps.{Ordered, Rising, Sinking, Loose};
-ghost use Rattle.timers.specs.HeapViews.{rank_in, Reordered};
+ghost use Rattle.timers.specs.Heaps.{Rising, Sinking, Loose};
+ghost use Rattle.timers.specs.HeapViews.{rank_in, Settled};
 
 use super::ranking::Heap;
 
@@ -10,8 +10,7 @@ impl Heap {
     fn sift_up(&mut self, from: usize)
         requires from { from < self.old.count }
         requires rising { Rising (rank_in self.old) self.old.count from }
-        ensures order { Ordered (rank_in self.new) self.new.count }
-        ensures kept { Reordered self.old self.new }
+        ensures { Settled self.old self.new }
     {
         let mut at = from;
         while at > 0 {
@@ -45,8 +44,7 @@ impl Heap {
     fn sift_down(&mut self, from: usize)
         requires from { from < self.old.count }
         requires sinking { Sinking (rank_in self.old) self.old.count from }
-        ensures order { Ordered (rank_in self.new) self.new.count }
-        ensures kept { Reordered self.old self.new }
+        ensures { Settled self.old self.new }
     {
         let mut at = from;
         while 2 * at + 1 < self.count {
@@ -63,8 +61,7 @@ impl Heap {
     pub fn settle(&mut self, from: usize)
         requires from { from < self.old.count }
         requires loose { Loose (rank_in self.old) self.old.count from }
-        ensures order { Ordered (rank_in self.new) self.new.count }
-        ensures kept { Reordered self.old self.new }
+        ensures { Settled self.old self.new }
     {
         if from > 0 && self.earlier(from, (from - 1) / 2) {
             self.sift_up(from);

@@ -12,4 +12,4 @@ pub returns : goal.returns
 returns c =
     let h = c.args.self.now.heap in
     let w = c.write.ensures in
-    record { meant = reordered_meant _ _ c.settle.ensures.kept ∙ comes_in h _ _ _ c.args.key.index _ _ c.args.key.below c.place_of-from.ensures.place (λ k l. ap (λ ls. get_or ls.places k 0) w.links ∙ c.swap.ensures.placed k l) c.args.deadline refl c.requires.stopped w.deadlines (ap (λ n. n + 1) w.count) }
+    record { meant = reordered_meant _ _ c.settle.ensures.same ∙ comes_in h _ _ _ c.args.key.index _ _ c.args.key.below c.place_of-from.ensures.place (λ k l. ap (λ ls. get_or ls.places k 0) w.links ∙ c.swap.ensures.placed k l) c.args.deadline refl c.requires.stopped w.deadlines (ap (λ n. n + 1) w.count) }

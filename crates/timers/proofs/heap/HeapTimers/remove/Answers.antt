@@ -15,7 +15,7 @@ invariant_of-self-else-place-last c =
 pub returns-then-place-last : goal.returns-then-place-last
 returns-then-place-last c =
     let h = c.args.self.now.heap in
-    record { meant = reordered_meant _ _ c.settle.ensures.kept ∙ goes_out h _ _ _ c.args.key.index _ _ c.args.key.below c.place_of-place.ensures.place c.swap.ensures.placed refl c.requires.running refl refl }
+    record { meant = reordered_meant _ _ c.settle.ensures.same ∙ goes_out h _ _ _ c.args.key.index _ _ c.args.key.below c.place_of-place.ensures.place c.swap.ensures.placed refl c.requires.running refl refl }
 
 pub returns-else-place-last : goal.returns-else-place-last
 returns-else-place-last c =

@@ -7,4 +7,4 @@ returns-clause-moved c = swapped_at _ _ _ _ c.swap.ensures.by_index
 pub returns-clause-placed : goal.returns-clause-placed
 returns-clause-placed c =
     let s = c.args.self.now in
-    places_after s.keys s.places c.args.i c.args.j c.requires.i c.requires.j s.linked _ c.swap-2.ensures.by_index
+    places_after s.keys s.places _ c.args.i c.args.j c.requires.i c.requires.j s.linked c.swap-2.ensures.by_index
