@@ -45,14 +45,11 @@ impl BitmapTimers {
             turns += 1;
             let deadline = self.deadlines[key.index];
             // keys rise, so that a later one wins only by a smaller deadline
-            match best {
-                Some(due) if due.deadline <= deadline => {}
-                _ => {
-                    best = Some(Due {
-                        key: key.index as u8,
-                        deadline,
-                    });
-                }
+            if best.is_none_or(|due| deadline < due.deadline) {
+                best = Some(Due {
+                    key: key.index as u8,
+                    deadline,
+                });
             }
         }
         (best, turns)

@@ -5,7 +5,8 @@ ghost use Rattle.timers.specs.Heaps.{Linked, exch};
 use crate::key::Key;
 use std::array;
 
-// Each key stands in one place and knows it: only `swap` ever writes the two arrays.
+// Each key stands in one place and knows it: `swap` alone writes the two arrays, which are each other's inverse.
+// A place is a plain index, since it is halved and doubled on each step up or down: a type of places would be taken apart there.
 #[derive(Clone, Copy)]
 pub struct Links {
     keys: [u8; 64],

@@ -5,6 +5,7 @@ use super::links::Links;
 use crate::key::Key;
 
 // The running keys stand in the places below `count`, and the others in those from there on.
+// The deadlines stand by key, apart from the links: a key moves with no write to them, and stays where one changes.
 #[derive(Clone, Copy)]
 pub struct Heap {
     pub links: Links,
@@ -19,12 +20,15 @@ impl Heap {
     ghost use Rattle.timers.specs.Heaps.{rank};
     ghost use Rattle.timers.specs.HeapViews.{place_in, rank_in};
 
+    // The deadline that a key has, or had last.
     pub fn deadline_of(&self, key: Key) -> u64
         ensures { result ≡ slice_index self.now.deadlines key.index }
     {
         self.deadlines[key.index]
     }
 
+    // Gives a key a deadline and leaves it in its place. `HeapTimers` calls this, since its own write into the table would
+    // have to keep the order at once.
     pub fn write(&mut self, key: Key, deadline: u64)
         ensures links { self.new.links ≡ self.old.links }
         ensures deadlines { self.new.deadlines ≡ slice_set self.old.deadlines key.index deadline }
@@ -33,6 +37,7 @@ impl Heap {
         self.deadlines[key.index] = deadline;
     }
 
+    // Whether a key runs.
     pub fn runs(&self, key: Key) -> bool
         ensures { result ≡ nat_lt (place_in self.now key.index) self.now.count }
     {
