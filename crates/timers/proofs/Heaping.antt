@@ -1,10 +1,12 @@
 -- The first of a heap, and the heap after an entry is set or stopped.
-use Rattle.std.proofs.Common.{◌≡◌, ℕ, zero, suc, ◌+◌, ◌-◌, ◌*◌, ◌/◌, ◌<◌, ◌≤◌, eqb, ltb, List, length, get_or, set, Some, None, sym, ap, ◌∙◌, arith, rules}
+use Rattle.std.proofs.Common.{◌≡◌, ℕ, zero, suc, ◌+◌, ◌-◌, ◌*◌, ◌/◌, ◌<◌, ◌≤◌, ◌≢◌, eqb, List, get_or, set, Some, None, sym, ap, ◌∙◌, arith, rules}
 use Rattle.std.specs.Map.{update}
 use Rattle.std.proofs.lemmas.Bool.Decides.{nat_tests}
 use Rattle.std.proofs.lemmas.List.{get_or-set_same, get_or-set_other}
+use Rattle.timers.specs.declared.heap.ranking.Heap.{Heap}
 use Rattle.timers.specs.Order.{NoLater, First}
-use Rattle.timers.specs.Heaps.{Linked, Heaped, Loose, Ordered, rank, ranked, heap_meant, exch}
+use Rattle.timers.specs.Heaps.{Loose, Ordered, rank, ranked, heap_meant, exch}
+use Rattle.timers.specs.HeapViews.{place_in, rank_in, deadlines_in, Reordered}
 
 -- ---- the first
 
@@ -16,62 +18,62 @@ root_least R n h (suc m) i u l = grind (arith, root_least R n h m ((i - 1) / 2))
 by_rank : (j b k a : ℕ) → j < 64 → k < 64 → b * 64 + j ≤ a * 64 + k → NoLater j b k a
 by_rank j b k a p q l = (omega arith, λ e. omega arith)
 
-heap_some : (places ats : List ℕ) (n k a : ℕ) → heap_meant places ats n k ≡ Some a → (k < 64) × (get_or places k 0 < n) × (get_or ats k 0 ≡ a)
-heap_some places ats n k a e = grind (arith, nat_tests)
+heap_some : (h : Heap) (k a : ℕ) → deadlines_in h k ≡ Some a → (k < 64) × (place_in h k < h.count) × (get_or h.deadlines k 0 ≡ a)
+heap_some h k a e = grind (arith, nat_tests)
 
-pub heap_first : (keys places ats : List ℕ) (n key at : ℕ) → Heaped keys places ats n → 0 < n → key ≡ get_or keys 0 0 → at ≡ get_or ats key 0 → First (heap_meant places ats n) key at
-heap_first keys places ats n key at h p e d =
-    let low : key < 64 = omega (arith, h.linked.low 0 (omega arith)) in
-    let there : get_or places key 0 ≡ 0 = ap (λ j. get_or places j 0) e ∙ h.linked.there 0 (omega arith) in (
+pub heap_first : (h : Heap) (key at : ℕ) → Ordered (rank_in h) h.count → 0 < h.count → key < 64 → key ≡ get_or h.links.keys 0 0 → at ≡ get_or h.deadlines key 0 → First (deadlines_in h) key at
+heap_first h key at order p low e d =
+    let there : place_in h key ≡ 0 = ap (place_in h) e ∙ h.links.linked.there 0 (omega arith) in (
       grind (arith, nat_tests),
       λ k a s.
-          let q = heap_some places ats n k a s in
-          let i = get_or places k 0 in
-          let r = root_least (ranked keys ats) n h.order i i (omega arith) q.1 in
-          let b : rank ats (get_or keys i 0) ≡ rank ats k = ap (rank ats) (h.linked.back k q.0) in
-          let f : rank ats key ≡ rank ats (get_or keys 0 0) = ap (rank ats) e in
+          let q = heap_some h k a s in
+          let i = place_in h k in
+          let r = root_least (rank_in h) h.count order i i (omega arith) q.1 in
+          let b : rank_in h i ≡ rank h.deadlines k = ap (rank h.deadlines) (h.links.linked.back k q.0) in
+          let f : rank h.deadlines key ≡ rank_in h 0 = ap (rank h.deadlines) e in
           by_rank key at k a low q.0 (omega (arith, r, b, f, q.2, d)),
     )
 
--- ---- what is meant after a change of one key
+-- ---- what is meant
 
-pub meant_set : (P Q ats : List ℕ) (n m key at : ℕ) → key < 64 → length ats ≡ 64 → get_or Q key 0 < m → ((k : ℕ) → k < 64 → (k ≡ key → ⊥) → ltb (get_or Q k 0) m ≡ ltb (get_or P k 0) n) → heap_meant Q (set ats key at) m ≡ update eqb (heap_meant P ats n) key (Some at)
-meant_set P Q ats n m key at l len on other i k = go k i
+pub reordered_meant : (h s : Heap) → Reordered h s → deadlines_in s ≡ deadlines_in h
+reordered_meant h s r i k = go k i
   where
-    go : (k : ℕ) → heap_meant Q (set ats key at) m k ≡ update eqb (heap_meant P ats n) key (Some at) k
-    go k = grind (arith, nat_tests, get_or-set_same, get_or-set_other)
+    go : (k : ℕ) → deadlines_in s k ≡ deadlines_in h k
+    go k = rw (r.count, r.deadlines) (grind (arith, nat_tests, r.running))
 
-pub meant_stop : (P Q ats : List ℕ) (n m key : ℕ) → key < 64 → m ≤ get_or Q key 0 → ((k : ℕ) → k < 64 → (k ≡ key → ⊥) → ltb (get_or Q k 0) m ≡ ltb (get_or P k 0) n) → heap_meant Q ats m ≡ update eqb (heap_meant P ats n) key None
-meant_stop P Q ats n m key l off other i k = go k i
-  where
-    go : (k : ℕ) → heap_meant Q ats m k ≡ update eqb (heap_meant P ats n) key None k
-    go k = grind (arith, nat_tests)
+-- after the key's place p is exchanged with the place j: Q are the places, ats the deadlines and n the count then
+module _ (h : Heap) (Q ats : List ℕ) (n key p j : ℕ) (l : key < 64) (at_p : p ≡ place_in h key) (placed : (k : ℕ) → k < 64 → get_or Q k 0 ≡ exch p j (place_in h k)) where
+  apart : (k : ℕ) → k < 64 → k ≢ key → place_in h k ≡ place_in h key → ⊥
+  apart k m other e = other (sym (h.links.linked.back k m) ∙ ap (λ x. get_or h.links.keys x 0) e ∙ h.links.linked.back key l)
 
--- ---- after a key comes in, in the place n, and after one goes out of the place p
-
--- which keys run: P and Q are the keys' places before and after
-module _ (keys P Q : List ℕ) (n key : ℕ) (h : Linked keys P) (l : key < 64) (k : ℕ) (m : k < 64) (other : k ≡ key → ⊥) where
-  apart : get_or P k 0 ≡ get_or P key 0 → ⊥
-  apart e = other (sym (h.back k m) ∙ ap (λ x. get_or keys x 0) e ∙ h.back key l)
-
-  pub comes_in : n ≤ get_or P key 0 → get_or Q k 0 ≡ exch (get_or P key 0) n (get_or P k 0) → ltb (get_or Q k 0) (n + 1) ≡ ltb (get_or P k 0) n
+  -- it comes in, from a place past the others
+  pub comes_in : (at : ℕ) → j ≡ h.count → h.count ≤ place_in h key → ats ≡ set h.deadlines key at → n ≡ h.count + 1 → heap_meant Q ats n ≡ update eqb (deadlines_in h) key (Some at)
   unfolding exch
-  comes_in u e = grind (arith, nat_tests, apart)
+  comes_in at last stopped e more i k = go k i
+    where
+      go : (k : ℕ) → heap_meant Q ats n k ≡ update eqb (deadlines_in h) key (Some at) k
+      go k = rw (e, more) (grind (arith, nat_tests, placed k, apart k, get_or-set_same, get_or-set_other, h.sized))
 
-  pub goes_out : get_or P key 0 < n → get_or Q k 0 ≡ exch (get_or P key 0) (n - 1) (get_or P k 0) → ltb (get_or Q k 0) (n - 1) ≡ ltb (get_or P k 0) n
+  -- it goes out, and the last one takes its place
+  pub goes_out : j ≡ n → place_in h key < h.count → ats ≡ h.deadlines → n ≡ h.count - 1 → heap_meant Q ats n ≡ update eqb (deadlines_in h) key None
   unfolding exch
-  goes_out u e = grind (arith, nat_tests, apart)
+  goes_out last runs e less i k = go k i
+    where
+      go : (k : ℕ) → heap_meant Q ats n k ≡ update eqb (deadlines_in h) key None k
+      go k = rw (e, less) (grind (arith, nat_tests, placed k, apart k))
 
--- all is in order but for one place
-pub loose_in : (keys places ats K : List ℕ) (n key at : ℕ) → Heaped keys places ats n → n ≤ get_or places key 0 → ((x : ℕ) → get_or K x 0 ≡ get_or keys (exch (get_or places key 0) n x) 0) → Loose (ranked K (set ats key at)) (n + 1) n
-unfolding exch
-loose_in keys places ats K n key at h l moved = search (rules, nat_tests, get_or-set_other)
+-- ---- all is in order but for one place: K and ats are the keys and the deadlines after it
 
-module _ (keys ats K : List ℕ) (n p : ℕ) (h : Ordered (ranked keys ats) n) (moved : (x : ℕ) → get_or K x 0 ≡ get_or keys (exch p (n - 1) x) 0) where
-  pub loose_out : Loose (ranked K ats) (n - 1) p
+module _ (h : Heap) (K ats : List ℕ) (p n : ℕ) (order : Ordered (rank_in h) h.count) where
+  pub loose_in : (key at : ℕ) → p ≡ place_in h key → h.count ≤ place_in h key → n ≡ h.count + 1 → ats ≡ set h.deadlines key at → ((x : ℕ) → get_or K x 0 ≡ get_or h.links.keys (exch p h.count x) 0) → Loose (ranked K ats) n h.count
   unfolding exch
-  loose_out = search (rules, nat_tests)
+  loose_in key at e l more w moved = rw (more, w) (search (rules, nat_tests, get_or-set_other))
 
-  pub order_out : p ≡ n - 1 → Ordered (ranked K ats) (n - 1)
+  pub loose_out : n ≡ h.count - 1 → ats ≡ h.deadlines → ((x : ℕ) → get_or K x 0 ≡ get_or h.links.keys (exch p n x) 0) → Loose (ranked K ats) n p
   unfolding exch
-  order_out e = search (rules, nat_tests)
+  loose_out less same moved = rw same (search (rules, nat_tests))
+
+  pub order_out : n ≡ h.count - 1 → ats ≡ h.deadlines → ((x : ℕ) → get_or K x 0 ≡ get_or h.links.keys (exch p n x) 0) → p ≡ n → Ordered (ranked K ats) n
+  unfolding exch
+  order_out less same moved e = rw same (search (rules, nat_tests))

@@ -1,4 +1,4 @@
-pub mod Digits
+pub mod LowestOne
 pub mod Firsts
 pub mod Swapping
 pub mod Sifting

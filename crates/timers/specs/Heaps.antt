@@ -26,13 +26,6 @@ pub record Linked (keys places : List ℕ) : Type 0 where
   pub there : (i : ℕ) → i < 64 → slice_index places (slice_index keys i) ≡ i
   pub back : (k : ℕ) → k < 64 → slice_index keys (slice_index places k) ≡ k
 
--- linked, and the keys in places below n stand in order
-pub record Heaped (keys places ats : List ℕ) (n : ℕ) : Type 0 where
-  pub linked : Linked keys places
-  pub at_places : length ats ≡ 64
-  pub most : n ≤ 64
-  pub order : Ordered (ranked keys ats) n
-
 -- where a place's key is once i and j are exchanged
 unfoldable pub exch : ℕ → ℕ → ℕ → ℕ
 exch i j x = cond (x == i) j (cond (x == j) i x)

@@ -1,3 +1,5 @@
 pub mod Order
+pub mod Timers
 pub mod Bitmaps
 pub mod Heaps
+pub mod HeapViews

@@ -1,25 +1,21 @@
 // Timers as a word of running keys beside their deadlines.
-ghost use Rattle.std.specs.Prelude.{◌≡◌, ℕ, ◌<◌, ◌≤◌, length, Some, None, count_ones, slice_set};
-ghost use Rattle.timers.specs.Bitmaps.{bitmap_meant};
-ghost use Rattle.timers.specs.Order.{First};
+ghost use Rattle.std.specs.Prelude.{◌≡◌, ℕ, length, None, count_ones};
 ghost use Rattle.std.proofs.Common.{rules};
+ghost use Rattle.timers.specs.Bitmaps.{bitmap_meant};
+ghost use Rattle.timers.specs.Timers.{IsFirstDue};
 
-use crate::meaning::{Due, LAST_KEY, NoSuchKey, Timers};
+mod running;
 
-// One bit for each key in a word, and one deadline for each.
+use crate::key::Key;
+use crate::meaning::{Due, NoSuchKey, Timers};
+use running::RunningKeys;
+
+// One bit for each key in a word, and one deadline for each: the word beside the table is what this set of timers is.
 #[derive(Clone, Copy)]
 pub struct BitmapTimers {
     running: u64,
     deadlines: [u64; 64],
-}
-
-// Behind a struct a proof does not know an array's length; lent by itself it has one.
-fn write(deadlines: &mut [u64; 64], key: usize, deadline: u64)
-    requires { key < 64 }
-    ensures places { length deadlines.old ≡ 64 }
-    ensures all { deadlines.new ≡ slice_set deadlines.old key deadline }
-{
-    deadlines[key] = deadline;
+    ghost sized: { length deadlines ≡ 64 },
 }
 
 impl BitmapTimers {
@@ -32,36 +28,31 @@ impl BitmapTimers {
         }
     }
 
+    fn running_keys(&self) -> RunningKeys
+        ensures { result.rest ≡ self.now.running }
+    {
+        RunningKeys { rest: self.running }
+    }
+
     // The first running key, and how many keys were looked at: as many as the word has ones.
     pub fn first_counted(&self) -> (Option<Due>, u32)
-        ensures first { elim result.0 [ Some d ↦ First (bitmap_meant self.now.running self.now.deadlines) d.key d.deadline | None ↦ ((k : ℕ) → bitmap_meant self.now.running self.now.deadlines k ≡ None) ] }
+        ensures first { IsFirstDue (bitmap_meant self.now.running self.now.deadlines) result.0 }
         ensures turns { result.1 ≡ count_ones self.now.running }
     {
-        let running = self.running;
-        if running == 0 {
-            return (None, 0);
-        }
-        let mut key = running.trailing_zeros() as usize;
-        let mut at = self.deadlines[key];
-        let mut rest = running & (running - 1);
-        let mut turns = 1;
-        while rest != 0 {
-            let next = rest.trailing_zeros() as usize;
-            let due = self.deadlines[next];
-            if due < at {
-                key = next;
-                at = due;
-            }
-            rest &= rest - 1;
+        let mut best: Option<Due> = None;
+        let mut turns = 0;
+        for key in self.running_keys() {
             turns += 1;
+            let deadline = self.deadlines[key.index];
+            // keys rise, so that a later one wins only by a smaller deadline
+            if best.is_none_or(|due| deadline < due.deadline) {
+                best = Some(Due {
+                    key: key.index as u8,
+                    deadline,
+                });
+            }
         }
-        (
-            Some(Due {
-                key: key as u8,
-                deadline: at,
-            }),
-            turns,
-        )
+        (best, turns)
     }
 }
 
@@ -71,19 +62,15 @@ impl Timers for BitmapTimers {
     ghost range = { Prim.search rules };
 
     fn set(&mut self, key: u8, deadline: u64) -> Result<(), NoSuchKey> {
-        if key > LAST_KEY {
-            return Err(NoSuchKey);
-        }
-        self.running |= 1u64 << key;
-        write(&mut self.deadlines, key as usize, deadline);
+        let key = Key::try_from(key)?;
+        self.running |= 1u64 << key.index;
+        self.deadlines[key.index] = deadline;
         Ok(())
     }
 
     fn stop(&mut self, key: u8) -> Result<(), NoSuchKey> {
-        if key > LAST_KEY {
-            return Err(NoSuchKey);
-        }
-        self.running &= !(1u64 << key);
+        let key = Key::try_from(key)?;
+        self.running &= !(1u64 << key.index);
         Ok(())
     }
 

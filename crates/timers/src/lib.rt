@@ -2,10 +2,9 @@
 #![tactic(auto)]
 
 pub mod bitmap;
-mod entries;
 pub mod heap;
+mod key;
 pub mod meaning;
-mod sift;
 
 pub use bitmap::BitmapTimers;
 pub use heap::HeapTimers;

@@ -1,13 +1,23 @@
 // What a set of timers means.
-ghost use Rattle.std.specs.Prelude.{◌≡◌, ℕ, ◌<◌, ◌≤◌, Some, None, Ok, Err, Option, nat_eq};
-ghost use Rattle.std.specs.Map.{update};
-ghost use Rattle.timers.specs.Order.{First};
+ghost use Rattle.std.specs.Prelude.{◌≡◌, ℕ, ◌≤◌, Some, None, Option, codes};
+ghost use Rattle.timers.specs.Timers.{Gives, IsFirstDue};
+
+use std::error::Error;
+use std::fmt;
 
 // A key above 63.
 #[derive(Clone, Copy, PartialEq, Eq, Debug)]
 pub struct NoSuchKey;
 
-pub(crate) const LAST_KEY: u8 = 63;
+impl fmt::Display for NoSuchKey {
+    ghost output = { λ _. Some (codes "a key is 0 to 63") };
+
+    fn fmt<W: fmt::Write>(&self, f: &mut fmt::Formatter<W>) -> fmt::Result {
+        f.write_str("a key is 0 to 63")
+    }
+}
+
+impl Error for NoSuchKey {}
 
 // A running key with its deadline.
 #[derive(Clone, Copy, PartialEq, Eq, Debug)]
@@ -22,15 +32,15 @@ pub trait Timers {
 
     // Gives the key this deadline, in the place of the one that it had.
     fn set(&mut self, key: u8, deadline: u64) -> Result<(), NoSuchKey>
-        ensures { elim result [ Ok _ ↦ (key < 64) × (deadlines self.new ≡ update nat_eq (deadlines self.old) key (Some deadline)) | Err _ ↦ (64 ≤ key) × (self.new ≡ self.old) ] };
+        ensures { Gives deadlines key (Some deadline) self.old self.new result };
 
     // Takes the key's deadline away; a key that does not run stays so.
     fn stop(&mut self, key: u8) -> Result<(), NoSuchKey>
-        ensures { elim result [ Ok _ ↦ (key < 64) × (deadlines self.new ≡ update nat_eq (deadlines self.old) key None) | Err _ ↦ (64 ≤ key) × (self.new ≡ self.old) ] };
+        ensures { Gives deadlines key None self.old self.new result };
 
     // The running key with the smallest deadline, the smaller key among equals, or none exactly when none runs.
     fn first(&self) -> Option<Due>
-        ensures { elim result [ Some d ↦ First (deadlines self.now) d.key d.deadline | None ↦ ((k : ℕ) → deadlines self.now k ≡ None) ] };
+        ensures { IsFirstDue (deadlines self.now) result };
 
     ghost range: { (s : Self) (k : ℕ) → 64 ≤ k → deadlines s k ≡ None };
 }

@@ -4,16 +4,10 @@ use timers::{BitmapTimers, Due, HeapTimers, NoSuchKey, Timers};
 
 // The first by looking at every key.
 fn searched(plain: &[Option<u64>; 64]) -> Option<Due> {
-    let mut best: Option<Due> = None;
-    for key in 0..64u8 {
-        if let Some(deadline) = plain[key as usize] {
-            best = match best {
-                Some(due) if due.deadline <= deadline => Some(due),
-                _ => Some(Due { key, deadline }),
-            };
-        }
-    }
-    best
+    (0..64u8)
+        .zip(plain)
+        .filter_map(|(key, deadline)| deadline.map(|deadline| Due { key, deadline }))
+        .min_by_key(|due| due.deadline)
 }
 
 // `turns` sets and stops that look random, with deadlines below `span`, so that many are equal.

@@ -1,10 +1,9 @@
-use Rattle.std.proofs.Common.{◌≡◌, ◌+◌, ◌^◌, ◌<◌}
-use lib.Count.{ones}
-use Rattle.timers.proofs.Firsts.{Best}
+use Rattle.std.proofs.Common.{◌≡◌, ◌+◌, count_ones}
+use Rattle.timers.proofs.Firsts.{SoFar}
 use Rattle.timers.proofs.bitmap.BitmapTimers.first_counted.Given as goal
 
-abbrev pub invariant-loop-rest : goal.invariant-loop-rest
-invariant-loop-rest l = (l.rest < 2 ^ 64) × Best l.running l.rest l.key l.at l.self.deadlines × (l.turns + ones l.rest ≡ ones l.running)
-
-abbrev pub decreases-loop-rest : goal.decreases-loop-rest
-decreases-loop-rest l = l.rest
+abbrev pub invariant-loop-key : goal.invariant-loop-key
+invariant-loop-key l = record {
+  best : SoFar l.self.running l.key-iterator.rest l.best l.self.deadlines;
+  turns : l.turns + count_ones l.key-iterator.rest ≡ count_ones l.self.running;
+}

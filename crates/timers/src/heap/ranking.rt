@@ -1,0 +1,59 @@
+// The keys of a heap with their deadlines, whether they stand in order or not.
+ghost use Rattle.std.specs.Prelude.{◌≡◌, ℕ, ◌<◌, ◌≤◌, length};
+
+use super::links::Links;
+use crate::key::Key;
+
+// The running keys stand in the places below `count`, and the others in those from there on.
+// The deadlines stand by key, apart from the links: a key moves with no write to them, and stays where one changes.
+#[derive(Clone, Copy)]
+pub struct Heap {
+    pub links: Links,
+    pub deadlines: [u64; 64],
+    pub count: usize,
+    ghost sized: { length deadlines ≡ 64 },
+    ghost most: { count ≤ 64 },
+}
+
+impl Heap {
+    ghost use Rattle.std.specs.Prelude.{nat_lt, slice_index, slice_set};
+    ghost use Rattle.timers.specs.Heaps.{rank};
+    ghost use Rattle.timers.specs.HeapViews.{place_in, rank_in};
+
+    // The deadline that a key has, or had last.
+    pub fn deadline_of(&self, key: Key) -> u64
+        ensures { result ≡ slice_index self.now.deadlines key.index }
+    {
+        self.deadlines[key.index]
+    }
+
+    // Gives a key a deadline and leaves it in its place. `HeapTimers` calls this, since its own write into the table would
+    // have to keep the order at once.
+    pub fn write(&mut self, key: Key, deadline: u64)
+        ensures links { self.new.links ≡ self.old.links }
+        ensures deadlines { self.new.deadlines ≡ slice_set self.old.deadlines key.index deadline }
+        ensures count { self.new.count ≡ self.old.count }
+    {
+        self.deadlines[key.index] = deadline;
+    }
+
+    // Whether a key runs.
+    pub fn runs(&self, key: Key) -> bool
+        ensures { result ≡ nat_lt (place_in self.now key.index) self.now.count }
+    {
+        self.links.place_of(key) < self.count
+    }
+
+    // Whether the key in place i comes before the one in place j: by deadline, then key.
+    pub fn earlier(&self, i: usize, j: usize) -> bool
+        requires i { i < 64 }
+        requires j { j < 64 }
+        ensures { result ≡ nat_lt (rank_in self.now i) (rank_in self.now j) }
+    {
+        let a = self.links.key_at(i);
+        let b = self.links.key_at(j);
+        let x = self.deadline_of(a);
+        let y = self.deadline_of(b);
+        x < y || (x == y && a.index < b.index)
+    }
+}
