@@ -33,6 +33,7 @@ use Rattle.rules.specs.declared.plan.Told.{Told}
 use Rattle.rules.specs.declared.plan.Plan.{Plan}
 use Rattle.rules.specs.States.{State, leg_at}
 use Rattle.rules.specs.Plans.{telling, planned, reacting, followed, listed, plan_ends, other_ends, put_leg, put_other, also}
+use Rattle.rules.specs.Steps.{plan_in}
 use Rattle.rules.specs.Consistent.{Mutual, Consistent}
 use Rattle.rules.proofs.Tables.{read, read_same, read_other, size_put, place_cases}
 use Rattle.rules.proofs.Mutuals.{Linked, Joined, mutual_same, mutual_two, tied_returned}
@@ -75,8 +76,11 @@ pub record Keeps (s : State) (x : Plan) : Type 0 where
   pub partners : Mutual (λ y. tie_of (read (put_other (put_leg s.legs x.place x.own.leg) x.other) y))
   pub whole : listed (plan_ends x) ≡ listed x.own.ends ++ listed (other_ends x.other)
 
+abbrev pub KeepsAny : State → Option Plan → Type 0
+KeepsAny s o = elim o [ None ↦ Unit {0} | Some x ↦ Keeps s x ]
+
 abbrev pub KeepsIf : State → Result Plan Refusal → Type 0
-KeepsIf s d = elim d [ Err _ ↦ Unit {0} | Ok x ↦ Keeps s x ]
+KeepsIf s d = KeepsAny s (plan_in d)
 
 -- ---- the leg that is told, by its state or its tie
 
