@@ -1,8 +1,8 @@
 -- Every life of a board keeps its state consistent.
-use Rattle.std.proofs.Common.{◌≡◌, ℕ, ◌+◌, ◌^◌, ◌<◌, ◌≤◌, false, ◌&&◌, ◌||◌, ltb, leb, List, [], ◌∷◌, length, Some, None, Ok, Err, Option, Result, sym, refl, ap, ◌∙◌, subst, arith, length-append}
+use Rattle.std.proofs.Common.{◌≡◌, ℕ, ◌+◌, ◌^◌, ◌<◌, ◌≤◌, false, ◌&&◌, ◌||◌, ltb, leb, List, [], ◌∷◌, length, Some, None, Ok, Err, Option, Result, refl, ap, ◌∙◌, arith, length-append}
 use lib.ListN.{get_or-replicate}
 use Rattle.std.proofs.ByRecursion.{All-append}
-use Rattle.std.proofs.lemmas.Bool.{and_parts, leb-true, ltb-false, ltb-true}
+use Rattle.std.proofs.lemmas.Bool.{and_parts, leb-true, ltb-false}
 use Rattle.std.proofs.lemmas.Bool.Decides.{nat_tests}
 use Rattle.std.specs.List.{AllByRecursion}
 use Rattle.message.specs.declared.record.Message.{Message}
@@ -39,10 +39,7 @@ use Rattle.rules.proofs.Calls.{timeout_keeps, call_keeps}
 -- ---- after a plan
 
 sent_lawful : (a b : Option Message) → LawfulIf a → LawfulIf b → AllByRecursion Lawful (listed (up_to_two a b))
-sent_lawful None None A B = tt
-sent_lawful None (Some m) A B = (B, tt)
-sent_lawful (Some m) None A B = (A, tt)
-sent_lawful (Some m) (Some n) A B = (A, (B, tt))
+sent_lawful a b A B = grind arith
 
 other_lawful : (o : Option Told) → OtherFine o → LawfulIf (other_sent o)
 other_lawful None F = tt
@@ -53,12 +50,11 @@ one_more n e h = grind (arith, nat_tests)
 
 following_fits : (next : Option ℕ) → NextInRange next → NextInRange (following next)
 following_fits None N = tt
-following_fits (Some n) N = by_test NextInRange (ltb n 65535) _ _ (λ e. one_more n N (ltb-true n 65535 e)) (λ _. tt)
+following_fits (Some n) N = grind (arith, nat_tests)
 
 module _ (s : State) (C : Consistent s) where
   size_after : (legs : List Leg) (o : Option Told) → length legs ≡ 32 → length (put_other legs o) ≡ 32
-  size_after legs None e = e
-  size_after legs (Some t) e = size_put legs t.to t.reaction.leg ∙ e
+  size_after legs o e = grind (arith, size_put)
 
   sound_after : (legs : List Leg) (o : Option Told) → length legs ≡ 32 → ((p : Place) → Sound (read legs p)) → OtherFine o → (p : Place) → Sound (read (put_other legs o) p)
   sound_after legs None e S F p = S p
@@ -95,7 +91,7 @@ module _ (s : State) (C : Consistent s) where
   settled_good t (Ok x) K T = carried_good t x K T
 
   at_time_lem : (t : ℕ) → t ≤ 2 ^ 40 → Consistent (at_time s t)
-  at_time_lem t T = record { size = C.size; sound = C.sound; partners = C.partners; next = C.next; time = T; lawful = C.lawful; fits = C.fits }
+  at_time_lem t T = assumption
 
   tick_to_lem : (t : ℕ) (o : Option Due) → t ≤ 2 ^ 40 → Good (elim o [ None ↦ (did note.NoneDue few.Zero few.Zero, at_time s t) | Some d ↦ settled s t (timeout_plan s d) ])
   tick_to_lem t None T = (tt, at_time_lem t T)
@@ -110,13 +106,14 @@ module _ (s : State) (C : Consistent s) where
   take_good : (w : List Message) → s.waiting ≡ w → Good (elim w [ [] ↦ (did note.QueueEmpty few.Zero few.Zero, s) | m ∷ ms ↦ (taken m, with_waiting s ms) ])
   take_good [] e = (tt, C)
   take_good (m ∷ ms) e =
-      let L : AllByRecursion Lawful (m ∷ ms) = subst (AllByRecursion Lawful) e C.lawful in
-      let n : length (m ∷ ms) ≤ s.capacity = subst (λ (w : List Message). length w ≤ s.capacity) e C.fits in
-      (L.0, record { size = C.size; sound = C.sound; partners = C.partners; next = C.next; time = C.time; lawful = L.1; fits = omega (arith, n) })
+      let L : AllByRecursion Lawful (m ∷ ms) = rw e at C.lawful in
+      let n : length (m ∷ ms) ≤ s.capacity = rw e at C.fits in
+      let room : length ms ≤ s.capacity = omega (arith, n) in
+      (L.0, assumption L.1)
 
   look_good : (o : Option Place) → Good (elim o [ None ↦ (Err refusal.NoSuchLeg, s) | Some p ↦ (shown (leg_at s p), s) ])
   look_good None = (tt, C)
-  look_good (Some p) = (tt, C)
+  look_good _ = (tt, C)
 
   pub step_good : (c : Call) → Good (step s c)
   step_good (call.Tick t) = tick_good t
@@ -133,7 +130,7 @@ pub fresh_consistent : (settings : Settings) (capacity : ℕ) → Consistent (fr
 fresh_consistent settings capacity =
     record {
       size = refl;
-      sound = λ p. subst Sound (sym (fresh_free settings capacity p)) free;
+      sound = λ p. rw (fresh_free settings capacity p) free;
       partners = λ p t e. (let none = ap tie_of (fresh_free settings capacity p) in cc);
       next = refl;
       time = omega arith;
@@ -172,16 +169,13 @@ module _ (s : State) (why : Refusal) where
   settled_unchanged t (Ok x) e = grind arith
 
   tick_unchanged : (t : ℕ) (o : Option Due) → Unchanged (elim o [ None ↦ (did note.NoneDue few.Zero few.Zero, at_time s t) | Some d ↦ settled s t (timeout_plan s d) ])
-  tick_unchanged t None e = cc
-  tick_unchanged t (Some d) e = settled_unchanged t (timeout_plan s d) e
+  tick_unchanged t o e = grind (arith, settled_unchanged)
 
   take_unchanged : (w : List Message) → Unchanged (elim w [ [] ↦ (did note.QueueEmpty few.Zero few.Zero, s) | m ∷ ms ↦ (taken m, with_waiting s ms) ])
-  take_unchanged [] e = refl
-  take_unchanged (m ∷ ms) e = cc
+  take_unchanged w e = grind arith
 
   look_unchanged : (o : Option Place) → Unchanged (elim o [ None ↦ (Err refusal.NoSuchLeg, s) | Some p ↦ (shown (leg_at s p), s) ])
-  look_unchanged None e = refl
-  look_unchanged (Some p) e = refl
+  look_unchanged o e = grind arith
 
   step_unchanged : (c : Call) → Unchanged (step s c)
   step_unchanged (call.Tick t) = by_test Unchanged (leb s.time t && leb t (2 ^ 40)) _ _ (λ _. tick_unchanged t (due_by t s.deadlines)) (λ _ _. refl)
