@@ -1,6 +1,6 @@
 -- Each call's plan keeps a state consistent.
-use Rattle.std.proofs.Common.{◌≡◌, ℕ, ◌-◌, ◌/◌, Bool, true, false, not, ◌&&◌, eqb, leb, List, Some, None, Ok, Err, Option, Result, sym, refl, ap, ◌∙◌, subst}
-use Rattle.std.proofs.lemmas.Bool.{false≢true, and_parts, and_from, le-leb, ne_eqb, not_from_false}
+use Rattle.std.proofs.Common.{arith, ◌≢◌, ◌≡◌, ℕ, ◌/◌, Bool, true, false, ◌&&◌, eqb, leb, List, Some, None, Ok, Err, Option, Result, refl, ap}
+use Rattle.std.proofs.lemmas.Bool.{and_parts, and_from, le-leb, ne_eqb, not_from_false}
 use Rattle.message.specs.declared.codes.Carrier.{Carrier}
 use Rattle.message.specs.declared.codes.Carrier.TheVariants as carrier
 use Rattle.message.specs.declared.record.Message.{Message}
@@ -10,7 +10,6 @@ use Rattle.message.proofs.Accepted.{accepted_is_lawful}
 use Rattle.leg.specs.declared.place.Place.{Place}
 use Rattle.leg.specs.declared.codes.Refusal.{Refusal}
 use Rattle.leg.specs.declared.codes.Refusal.TheVariants as refusal
-use Rattle.leg.specs.declared.record.HoldKind.{HoldKind}
 use Rattle.leg.specs.declared.record.Leg.{Leg}
 use Rattle.leg.specs.declared.record.Transfer.{Transfer}
 use Rattle.leg.specs.declared.reaction.Word.{Word}
@@ -19,7 +18,7 @@ use Rattle.leg.specs.Places.{place_of}
 use Rattle.leg.specs.Views.{in_use, is_active, is_idle, is_awaiting_setup, when_asked}
 use Rattle.machine.specs.Invokes.{set_up}
 use Rattle.machine.specs.Replies.{heard_on}
-use Rattle.rules.specs.Sound.{Sound, free, calling, ringing, alerting, active, InWord}
+use Rattle.rules.specs.Sound.{Sound, InWord}
 use Rattle.machine.specs.declared.event.Event.{Event}
 use Rattle.machine.specs.declared.event.Event.TheVariants as event
 use Rattle.machine.specs.Reacts.{reacts}
@@ -30,23 +29,21 @@ use Rattle.timers.specs.declared.meaning.Due.{Due}
 use Rattle.rules.specs.declared.plan.Plan.{Plan}
 use Rattle.rules.specs.States.{State, leg_at}
 use Rattle.rules.specs.Plans.{reacting}
-use Rattle.rules.specs.Steps.{at_place, open_plan, clear_plan, transfer_plan, consult_at, consult_plan, place_at, place_plan, accept_plan, decline_plan, hold_plan, retrieve_plan, if_awaiting, awaiting, heard_at, heard_plan, slot_of, timeout_plan}
+use Rattle.rules.specs.Steps.{at_place, consult_at, place_at, if_awaiting, awaiting, heard_at, slot_of, timeout_plan, plan_in, plan_for}
 use Rattle.rules.specs.Consistent.{Consistent}
 use Rattle.rules.proofs.Tables.{place_same}
-use Rattle.rules.proofs.Mutuals.{some_is, none_some}
-use Rattle.rules.proofs.Pairs.{word_fits, may_tell, KeepsIf, reacting_keeps}
+use Rattle.rules.specs.declared.call.Call.{Call}
+use Rattle.rules.specs.declared.call.Call.TheVariants as call
+use Rattle.rules.specs.Firsts.{due_by}
+use Rattle.rules.proofs.Pairs.{word_fits, may_tell, KeepsAny, KeepsIf, reacting_keeps}
 
 -- a leg that is not in use awaits nothing
 free_awaits : (l : Leg) → Sound l → in_use l ≡ false → is_awaiting_setup l ≡ false
-free_awaits _ free e = refl
-free_awaits _ (calling _ _ _ _) e = refl
-free_awaits _ (ringing _ _ _ _) e = refl
-free_awaits _ (alerting _ _) e = refl
-free_awaits _ (active _ _ _ _ _ _ _) e = absurd (false≢true (sym e))
+free_awaits l S e = grind arith
 
 module _ (s : State) (C : Consistent s) where
   own_fits : InWord s.settings.own
-  own_fits = and_from (leb 1 s.settings.own) (leb s.settings.own 65535) (le-leb 1 s.settings.own s.settings.least) (le-leb s.settings.own 65535 s.settings.most)
+  own_fits = and_from _ _ (le-leb 1 s.settings.own s.settings.least) (le-leb s.settings.own 65535 s.settings.most)
 
   react : (p : Place) (e : Event) → Ready (may_tell s p) p (leg_at s p) e → KeepsIf s (reacting s p (reacts (leg_at s p) p s.settings.own s.next e))
   react p e R = reacting_keeps s C p _ (stays_sound (may_tell s p) (leg_at s p) p s.settings.own s.next e (C.sound p) own_fits C.next R)
@@ -55,21 +52,9 @@ module _ (s : State) (C : Consistent s) where
   by_place None f g = tt
   by_place (Some p) f g = g p
 
-  -- two legs that differ in what they are, differ
-  apart_by : (p q : Place) (f : Leg → Bool) → f (leg_at s p) ≡ true → f (leg_at s q) ≡ false → eqb p.index q.index ≡ false
-  apart_by p q f a b = ne_eqb p.index q.index (λ e. false≢true (sym b ∙ ap (λ (x : Place). f (leg_at s x)) (sym (place_same p q e)) ∙ a))
-
-  may_tell_lem : (p q : Place) (w : Word) → eqb q.index p.index ≡ false → word_fits (leg_at s q) w ≡ true → may_tell s p q w ≡ true
-  may_tell_lem p q w a b = and_from (not (eqb q.index p.index)) (word_fits (leg_at s q) w) (not_from_false (eqb q.index p.index) a) b
-
-  pub open_keeps : (leg peer : ℕ) → KeepsIf s (open_plan s leg peer)
-  open_keeps leg peer = by_place (place_of leg) _ (λ p. by_test (KeepsIf s) (leb 1 peer && leb peer 65535) _ _ (λ e. react p (event.Open peer) e) (λ _. tt))
-
-  pub clear_keeps : (leg : ℕ) → KeepsIf s (clear_plan s leg)
-  clear_keeps leg = by_place (place_of leg) _ (λ p. react p event.Clear tt)
-
-  pub transfer_keeps : (leg a : ℕ) → KeepsIf s (transfer_plan s leg a)
-  transfer_keeps leg a = by_place (place_of leg) _ (λ p. by_test (KeepsIf s) (leb 1 a && leb a 65535) _ _ (λ e. react p (event.Transfer a) e) (λ _. tt))
+  -- two legs that differ in what they are, differ; and the one may be told a word that fits it
+  may_tell_other : (p q : Place) (w : Word) (f : Leg → Bool) → f (leg_at s q) ≢ f (leg_at s p) → word_fits (leg_at s q) w ≡ true → may_tell s p q w ≡ true
+  may_tell_other p q w f ne fits = and_from _ _ (not_from_false _ (ne_eqb q.index p.index (λ e. ne (ap (λ (x : Place). f (leg_at s x)) (place_same q p e))))) fits
 
   consult_at_lem : (p q : Place) → KeepsIf s (consult_at s p q)
   consult_at_lem p q =
@@ -81,13 +66,10 @@ module _ (s : State) (C : Consistent s) where
       (λ i.
       let A = and_parts (is_active (leg_at s p)) (is_active (leg_at s q)) a in
       let I = and_parts (is_idle (leg_at s p)) (is_idle (leg_at s q)) i in
-      react q (event.Identify p) (A.1, I.1, may_tell_lem q p (word.Consult q) ne (and_from (is_active (leg_at s p)) (is_idle (leg_at s p)) A.0 I.0)))
+      react q (event.Identify p) (A.1, I.1, and_from _ _ (not_from_false _ ne) (and_from _ _ A.0 I.0)))
       (λ _. tt)))
       (λ _. tt))
       (λ _. tt)
-
-  pub consult_keeps : (primary secondary : ℕ) → KeepsIf s (consult_plan s primary secondary)
-  consult_keeps primary secondary = by_place (place_of primary) _ (λ p. by_place (place_of secondary) _ (λ q. consult_at_lem p q))
 
   place_at_lem : (p n : Place) → KeepsIf s (place_at s p n)
   place_at_lem p n =
@@ -95,43 +77,20 @@ module _ (s : State) (C : Consistent s) where
       (λ _. tt)
       (λ not-used. by_test (KeepsIf s) (in_use (leg_at s p)) _ _
       (λ used. by_asked (KeepsIf s) (leg_at s p).transfer _ _
-      (λ o e. react n (event.SetUp p o) (not-used, asked_in (leg_at s p) (C.sound p) o e, may_tell_lem n p (word.Place n) (apart_by p n in_use used not-used) (ap (λ (t : Transfer). when_asked t (λ _. true) false) e)))
+      (λ o e. react n (event.SetUp p o) (not-used, asked_in (leg_at s p) (C.sound p) o e, may_tell_other n p (word.Place n) in_use (λ x. cc) (ap (λ (t : Transfer). when_asked t (λ _. true) false) e)))
       tt)
       (λ _. tt))
 
-  pub place_keeps : (primary new : ℕ) → KeepsIf s (place_plan s primary new)
-  place_keeps primary new = by_place (place_of primary) _ (λ p. by_place (place_of new) _ (λ n. place_at_lem p n))
-
-  pub accept_keeps : (leg : ℕ) → KeepsIf s (accept_plan s leg)
-  accept_keeps leg = by_place (place_of leg) _ (λ p. react p event.Accept tt)
-
-  pub decline_keeps : (leg : ℕ) → KeepsIf s (decline_plan s leg)
-  decline_keeps leg = by_place (place_of leg) _ (λ p. react p event.Decline tt)
-
-  pub hold_keeps : (leg : ℕ) (k : HoldKind) → KeepsIf s (hold_plan s leg k)
-  hold_keeps leg k = by_place (place_of leg) _ (λ p. react p (event.Hold k) tt)
-
-  pub retrieve_keeps : (leg : ℕ) → KeepsIf s (retrieve_plan s leg)
-  retrieve_keeps leg = by_place (place_of leg) _ (λ p. react p event.Retrieve tt)
-
   -- the leg that a set-up is met by awaits one
   if_awaiting_lem : (o : Option Place) (q : Place) → if_awaiting s o ≡ Some q → is_awaiting_setup (leg_at s q) ≡ true
-  if_awaiting_lem None q e = none_some _ q refl e
-  if_awaiting_lem (Some r) q e =
-      by_test (λ (o : Option Place). o ≡ Some q → is_awaiting_setup (leg_at s q) ≡ true) (is_awaiting_setup (leg_at s r)) (Some r) None
-      (λ a f. subst (λ (x : Place). is_awaiting_setup (leg_at s x) ≡ true) (some_is r q f) a)
-      (λ _ f. none_some _ q refl f)
-      e
+  if_awaiting_lem o q e = grind arith
 
   awaits : (i : ℕ) (q : Place) → awaiting s i ≡ Some q → is_awaiting_setup (leg_at s q) ≡ true
-  awaits i q =
-      by_test (λ (o : Option Place). o ≡ Some q → is_awaiting_setup (leg_at s q) ≡ true) (eqb i 0) None (if_awaiting s (place_of (i - 1)))
-      (λ _ f. none_some _ q refl f)
-      (λ _ f. if_awaiting_lem (place_of (i - 1)) q f)
+  awaits i q e = grind arith
 
   met_by : (p : Place) (i : ℕ) → in_use (leg_at s p) ≡ false → (q : Place) → awaiting s i ≡ Some q → may_tell s p q word.Met ≡ true
   met_by p i not-used q e =
-      may_tell_lem p q word.Met (apart_by q p is_awaiting_setup (awaits i q e) (free_awaits (leg_at s p) (C.sound p) not-used)) (awaits i q e)
+      may_tell_other p q word.Met is_awaiting_setup (λ x. (let f = free_awaits (leg_at s p) (C.sound p) not-used in let a = awaits i q e in cc)) (awaits i q e)
 
   heard_at_lem : (m : Message) (p : Place) (c : Carrier) → m.carrier ≡ c → Lawful m
       → KeepsIf s (reacting s p (elim c [
@@ -142,18 +101,30 @@ module _ (s : State) (C : Consistent s) where
         | carrier.ReleaseComplete ↦ Ok (heard_on (leg_at s p) p s.settings.own m)
       ]))
   heard_at_lem m p carrier.Setup e L = react p (event.Meet m (awaiting s m.identity)) (e, L, met_by p m.identity)
-  heard_at_lem m p carrier.Alerting e L = react p (event.Hear m) L
-  heard_at_lem m p carrier.Connect e L = react p (event.Hear m) L
-  heard_at_lem m p carrier.Facility e L = react p (event.Hear m) L
-  heard_at_lem m p carrier.ReleaseComplete e L = react p (event.Hear m) L
+  heard_at_lem m p _ e L = react p (event.Hear m) L
 
-  heard_verdict : (bytes : List ℕ) (v : Result Message MessageFault) → verdict bytes ≡ v
+  heard_keeps : (bytes : List ℕ) (v : Result Message MessageFault) → verdict bytes ≡ v
       → KeepsIf s (elim v [ Err f ↦ Err (refusal.BadMessage f) | Ok m ↦ at_place m.leg (λ p. reacting s p (heard_at s m p)) ])
-  heard_verdict bytes (Err f) e = tt
-  heard_verdict bytes (Ok m) e = by_place (place_of m.leg) _ (λ p. heard_at_lem m p m.carrier refl (accepted_is_lawful bytes m e))
-
-  pub heard_keeps : (bytes : List ℕ) → KeepsIf s (heard_plan s bytes)
-  heard_keeps bytes = heard_verdict bytes (verdict bytes) refl
+  heard_keeps bytes (Err f) e = tt
+  heard_keeps bytes (Ok m) e = by_place (place_of m.leg) _ (λ p. heard_at_lem m p m.carrier refl (accepted_is_lawful bytes m e))
 
   pub timeout_keeps : (d : Due) → KeepsIf s (timeout_plan s d)
   timeout_keeps d = by_place (place_of (d.key / 2)) _ (λ p. react p (event.RunOut (slot_of d.key)) tt)
+
+  tick_keeps : (o : Option Due) → KeepsAny s (elim o [ None ↦ None | Some d ↦ plan_in (timeout_plan s d) ])
+  tick_keeps None = tt
+  tick_keeps (Some d) = timeout_keeps d
+
+  pub call_keeps : (c : Call) → KeepsAny s (plan_for s c)
+  call_keeps (call.Open leg peer) = by_place (place_of leg) _ (λ p. by_test (KeepsIf s) (leb 1 peer && leb peer 65535) _ _ (λ e. react p (event.Open peer) e) (λ _. tt))
+  call_keeps (call.Clear leg) = by_place (place_of leg) _ (λ p. react p event.Clear tt)
+  call_keeps (call.Transfer leg a) = by_place (place_of leg) _ (λ p. by_test (KeepsIf s) (leb 1 a && leb a 65535) _ _ (λ e. react p (event.Transfer a) e) (λ _. tt))
+  call_keeps (call.Consult primary secondary) = by_place (place_of primary) _ (λ p. by_place (place_of secondary) _ (λ q. consult_at_lem p q))
+  call_keeps (call.Place primary new) = by_place (place_of primary) _ (λ p. by_place (place_of new) _ (λ n. place_at_lem p n))
+  call_keeps (call.Accept leg) = by_place (place_of leg) _ (λ p. react p event.Accept tt)
+  call_keeps (call.Decline leg) = by_place (place_of leg) _ (λ p. react p event.Decline tt)
+  call_keeps (call.Hold leg k) = by_place (place_of leg) _ (λ p. react p (event.Hold k) tt)
+  call_keeps (call.Retrieve leg) = by_place (place_of leg) _ (λ p. react p event.Retrieve tt)
+  call_keeps (call.Heard bytes) = heard_keeps bytes.now (verdict bytes.now) refl
+  call_keeps (call.Tick t) = tick_keeps (due_by t s.deadlines)
+  call_keeps _ = tt

@@ -1,8 +1,8 @@
 -- Every life of a board keeps its state consistent.
-use Rattle.std.proofs.Common.{◌≡◌, ℕ, ◌+◌, ◌^◌, ◌<◌, ◌≤◌, Bool, false, ◌&&◌, ◌||◌, ltb, leb, List, [], ◌∷◌, ◌++◌, length, Some, None, Ok, Err, Option, Result, sym, refl, ap, ◌∙◌, subst, arith, length-append, is_err}
+use Rattle.std.proofs.Common.{◌≡◌, ℕ, ◌+◌, ◌^◌, ◌<◌, ◌≤◌, false, ◌&&◌, ◌||◌, ltb, leb, List, [], ◌∷◌, length, Some, None, Ok, Err, Option, Result, refl, ap, ◌∙◌, arith, length-append}
 use lib.ListN.{get_or-replicate}
 use Rattle.std.proofs.ByRecursion.{All-append}
-use Rattle.std.proofs.lemmas.Bool.{false≢true, and_parts, leb-true, ltb-false, ltb-true}
+use Rattle.std.proofs.lemmas.Bool.{and_parts, leb-true, ltb-false}
 use Rattle.std.proofs.lemmas.Bool.Decides.{nat_tests}
 use Rattle.std.specs.List.{AllByRecursion}
 use Rattle.message.specs.declared.record.Message.{Message}
@@ -27,23 +27,19 @@ use Rattle.rules.specs.declared.plan.Plan.{Plan}
 use Rattle.rules.specs.declared.settings.Settings.{Settings}
 use Rattle.rules.specs.States.{State, fresh, leg_at, free_places}
 use Rattle.rules.specs.Firsts.{due_by}
-use Rattle.rules.specs.Plans.{other_sent, other_ends, listed, plan_sent, plan_ends, asks, following, put_leg, put_other, after, done_by, carried, settled}
-use Rattle.rules.specs.Steps.{timeout_plan, tick_step, at_time, with_waiting, step, plan_in, plan_for}
+use Rattle.rules.specs.Plans.{other_sent, listed, plan_sent, asks, following, put_leg, put_other, after, carried, settled}
+use Rattle.rules.specs.Steps.{timeout_plan, tick_step, at_time, with_waiting, step}
 use Rattle.rules.specs.Runs.{runs}
 use Rattle.rules.specs.Consistent.{Consistent}
 use Rattle.rules.specs.Laws.{LawfulAnswer, AlwaysConsistent, AlwaysLawful, EndsAllNamed, RefusedChangesNothing}
 use Rattle.rules.proofs.Tables.{read, size_put, all_put}
-use Rattle.rules.proofs.Mutuals.{some_is, none_some}
 use Rattle.rules.proofs.Pairs.{OtherFine, Keeps, KeepsIf}
-use Rattle.rules.proofs.Calls.{open_keeps, clear_keeps, transfer_keeps, consult_keeps, place_keeps, accept_keeps, decline_keeps, hold_keeps, retrieve_keeps, heard_keeps, timeout_keeps}
+use Rattle.rules.proofs.Calls.{timeout_keeps, call_keeps}
 
 -- ---- after a plan
 
 sent_lawful : (a b : Option Message) → LawfulIf a → LawfulIf b → AllByRecursion Lawful (listed (up_to_two a b))
-sent_lawful None None A B = tt
-sent_lawful None (Some m) A B = (B, tt)
-sent_lawful (Some m) None A B = (A, tt)
-sent_lawful (Some m) (Some n) A B = (A, (B, tt))
+sent_lawful a b A B = grind arith
 
 other_lawful : (o : Option Told) → OtherFine o → LawfulIf (other_sent o)
 other_lawful None F = tt
@@ -54,12 +50,11 @@ one_more n e h = grind (arith, nat_tests)
 
 following_fits : (next : Option ℕ) → NextInRange next → NextInRange (following next)
 following_fits None N = tt
-following_fits (Some n) N = by_test NextInRange (ltb n 65535) (Some (n + 1)) None (λ e. one_more n N (ltb-true n 65535 e)) (λ _. tt)
+following_fits (Some n) N = grind (arith, nat_tests)
 
 module _ (s : State) (C : Consistent s) where
   size_after : (legs : List Leg) (o : Option Told) → length legs ≡ 32 → length (put_other legs o) ≡ 32
-  size_after legs None e = e
-  size_after legs (Some t) e = size_put legs t.to t.reaction.leg ∙ e
+  size_after legs o e = grind (arith, size_put)
 
   sound_after : (legs : List Leg) (o : Option Told) → length legs ≡ 32 → ((p : Place) → Sound (read legs p)) → OtherFine o → (p : Place) → Sound (read (put_other legs o) p)
   sound_after legs None e S F p = S p
@@ -96,7 +91,7 @@ module _ (s : State) (C : Consistent s) where
   settled_good t (Ok x) K T = carried_good t x K T
 
   at_time_lem : (t : ℕ) → t ≤ 2 ^ 40 → Consistent (at_time s t)
-  at_time_lem t T = record { size = C.size; sound = C.sound; partners = C.partners; next = C.next; time = T; lawful = C.lawful; fits = C.fits }
+  at_time_lem t T = assumption
 
   tick_to_lem : (t : ℕ) (o : Option Due) → t ≤ 2 ^ 40 → Good (elim o [ None ↦ (did note.NoneDue few.Zero few.Zero, at_time s t) | Some d ↦ settled s t (timeout_plan s d) ])
   tick_to_lem t None T = (tt, at_time_lem t T)
@@ -111,52 +106,20 @@ module _ (s : State) (C : Consistent s) where
   take_good : (w : List Message) → s.waiting ≡ w → Good (elim w [ [] ↦ (did note.QueueEmpty few.Zero few.Zero, s) | m ∷ ms ↦ (taken m, with_waiting s ms) ])
   take_good [] e = (tt, C)
   take_good (m ∷ ms) e =
-      let L : AllByRecursion Lawful (m ∷ ms) = subst (AllByRecursion Lawful) e C.lawful in
-      let n : length (m ∷ ms) ≤ s.capacity = subst (λ (w : List Message). length w ≤ s.capacity) e C.fits in
-      (L.0, record { size = C.size; sound = C.sound; partners = C.partners; next = C.next; time = C.time; lawful = L.1; fits = omega (arith, n) })
+      let L : AllByRecursion Lawful (m ∷ ms) = rw e at C.lawful in
+      let n : length (m ∷ ms) ≤ s.capacity = rw e at C.fits in
+      let room : length ms ≤ s.capacity = omega (arith, n) in
+      (L.0, assumption L.1)
 
   look_good : (o : Option Place) → Good (elim o [ None ↦ (Err refusal.NoSuchLeg, s) | Some p ↦ (shown (leg_at s p), s) ])
   look_good None = (tt, C)
-  look_good (Some p) = (tt, C)
+  look_good _ = (tt, C)
 
   pub step_good : (c : Call) → Good (step s c)
-  step_good (call.Open leg peer) = settled_good s.time _ (open_keeps s C leg peer) C.time
-  step_good (call.Clear leg) = settled_good s.time _ (clear_keeps s C leg) C.time
-  step_good (call.Transfer leg a) = settled_good s.time _ (transfer_keeps s C leg a) C.time
-  step_good (call.Consult p q) = settled_good s.time _ (consult_keeps s C p q) C.time
-  step_good (call.Place p n) = settled_good s.time _ (place_keeps s C p n) C.time
-  step_good (call.Accept leg) = settled_good s.time _ (accept_keeps s C leg) C.time
-  step_good (call.Decline leg) = settled_good s.time _ (decline_keeps s C leg) C.time
-  step_good (call.Hold leg k) = settled_good s.time _ (hold_keeps s C leg k) C.time
-  step_good (call.Retrieve leg) = settled_good s.time _ (retrieve_keeps s C leg) C.time
-  step_good (call.Heard bytes) = settled_good s.time _ (heard_keeps s C bytes.now) C.time
   step_good (call.Tick t) = tick_good t
   step_good call.Take = take_good s.waiting refl
   step_good (call.Look leg) = look_good (place_of leg)
-
-  -- what a plan names, it names whole
-  whole_in : (d : Result Plan Refusal) (x : Plan) → KeepsIf s d → plan_in d ≡ Some x → listed (plan_ends x) ≡ listed x.own.ends ++ listed (other_ends x.other)
-  whole_in (Err why) x K e = none_some _ x refl e
-  whole_in (Ok y) x K e = subst (λ (z : Plan). listed (plan_ends z) ≡ listed z.own.ends ++ listed (other_ends z.other)) (some_is y x e) K.whole
-
-  whole_tick : (o : Option Due) (x : Plan) → elim o [ None ↦ None | Some d ↦ plan_in (timeout_plan s d) ] ≡ Some x → listed (plan_ends x) ≡ listed x.own.ends ++ listed (other_ends x.other)
-  whole_tick None x e = none_some _ x refl e
-  whole_tick (Some d) x e = whole_in (timeout_plan s d) x (timeout_keeps s C d) e
-
-  pub step_whole : (c : Call) (x : Plan) → plan_for s c ≡ Some x → listed (plan_ends x) ≡ listed x.own.ends ++ listed (other_ends x.other)
-  step_whole (call.Open leg peer) x e = whole_in _ x (open_keeps s C leg peer) e
-  step_whole (call.Clear leg) x e = whole_in _ x (clear_keeps s C leg) e
-  step_whole (call.Transfer leg a) x e = whole_in _ x (transfer_keeps s C leg a) e
-  step_whole (call.Consult p q) x e = whole_in _ x (consult_keeps s C p q) e
-  step_whole (call.Place p n) x e = whole_in _ x (place_keeps s C p n) e
-  step_whole (call.Accept leg) x e = whole_in _ x (accept_keeps s C leg) e
-  step_whole (call.Decline leg) x e = whole_in _ x (decline_keeps s C leg) e
-  step_whole (call.Hold leg k) x e = whole_in _ x (hold_keeps s C leg k) e
-  step_whole (call.Retrieve leg) x e = whole_in _ x (retrieve_keeps s C leg) e
-  step_whole (call.Heard bytes) x e = whole_in _ x (heard_keeps s C bytes.now) e
-  step_whole (call.Tick t) x e = whole_tick (due_by t s.deadlines) x e
-  step_whole call.Take x e = none_some _ x refl e
-  step_whole (call.Look leg) x e = none_some _ x refl e
+  step_good c = settled_good s.time _ (call_keeps s C c) C.time
 
 -- ---- lives
 
@@ -167,8 +130,8 @@ pub fresh_consistent : (settings : Settings) (capacity : ℕ) → Consistent (fr
 fresh_consistent settings capacity =
     record {
       size = refl;
-      sound = λ p. subst Sound (sym (fresh_free settings capacity p)) free;
-      partners = λ p t e. none_some _ t (ap tie_of (fresh_free settings capacity p)) e;
+      sound = λ p. rw (fresh_free settings capacity p) free;
+      partners = λ p t e. (let none = ap tie_of (fresh_free settings capacity p) in cc);
       next = refl;
       time = omega arith;
       lawful = tt;
@@ -190,51 +153,35 @@ pub always_lawful : AlwaysLawful
 always_lawful settings capacity calls = (life_good (fresh settings capacity) calls (fresh_consistent settings capacity)).0
 
 pub ends_all_named : EndsAllNamed
-ends_all_named settings capacity calls c x e = step_whole (runs (fresh settings capacity) calls).1 (always_consistent settings capacity calls) c x e
+ends_all_named settings capacity calls c x e =
+    let s = (runs (fresh settings capacity) calls).1 in
+    let K : Keeps s x = rw e at (call_keeps s (always_consistent settings capacity calls) c) in
+    K.whole
 
 -- ---- refusals
-
-abbrev is_refused : Answer → Bool
-is_refused a = is_err a
-
-done_refused : {X : Type 0} (a : Answer) (why : Refusal) → is_refused a ≡ false → a ≡ Err why → X
-done_refused a why f e = absurd (false≢true (sym f ∙ ap is_refused e))
 
 module _ (s : State) (why : Refusal) where
   abbrev Unchanged : Answer × State → Type 0
   Unchanged a = a.0 ≡ Err why → a.1 ≡ s
 
   settled_unchanged : (t : ℕ) (d : Result Plan Refusal) → Unchanged (settled s t d)
-  settled_unchanged t (Err _) = λ _. refl
-  settled_unchanged t (Ok x) =
-      by_test Unchanged (ltb (free_places s) (length (listed (plan_sent x)))) _ _ (λ _ _. refl) (λ _ e. done_refused (done_by x) why refl e)
+  settled_unchanged t (Err _) e = refl
+  settled_unchanged t (Ok x) e = grind arith
 
   tick_unchanged : (t : ℕ) (o : Option Due) → Unchanged (elim o [ None ↦ (did note.NoneDue few.Zero few.Zero, at_time s t) | Some d ↦ settled s t (timeout_plan s d) ])
-  tick_unchanged t None e = done_refused _ why refl e
-  tick_unchanged t (Some d) e = settled_unchanged t (timeout_plan s d) e
+  tick_unchanged t o e = grind (arith, settled_unchanged)
 
   take_unchanged : (w : List Message) → Unchanged (elim w [ [] ↦ (did note.QueueEmpty few.Zero few.Zero, s) | m ∷ ms ↦ (taken m, with_waiting s ms) ])
-  take_unchanged [] e = refl
-  take_unchanged (m ∷ ms) e = done_refused _ why refl e
+  take_unchanged w e = grind arith
 
   look_unchanged : (o : Option Place) → Unchanged (elim o [ None ↦ (Err refusal.NoSuchLeg, s) | Some p ↦ (shown (leg_at s p), s) ])
-  look_unchanged None e = refl
-  look_unchanged (Some p) e = refl
+  look_unchanged o e = grind arith
 
   step_unchanged : (c : Call) → Unchanged (step s c)
-  step_unchanged (call.Open leg peer) = settled_unchanged s.time _
-  step_unchanged (call.Clear leg) = settled_unchanged s.time _
-  step_unchanged (call.Transfer leg a) = settled_unchanged s.time _
-  step_unchanged (call.Consult p q) = settled_unchanged s.time _
-  step_unchanged (call.Place p n) = settled_unchanged s.time _
-  step_unchanged (call.Accept leg) = settled_unchanged s.time _
-  step_unchanged (call.Decline leg) = settled_unchanged s.time _
-  step_unchanged (call.Hold leg k) = settled_unchanged s.time _
-  step_unchanged (call.Retrieve leg) = settled_unchanged s.time _
-  step_unchanged (call.Heard bytes) = settled_unchanged s.time _
   step_unchanged (call.Tick t) = by_test Unchanged (leb s.time t && leb t (2 ^ 40)) _ _ (λ _. tick_unchanged t (due_by t s.deadlines)) (λ _ _. refl)
   step_unchanged call.Take = take_unchanged s.waiting
   step_unchanged (call.Look leg) = look_unchanged (place_of leg)
+  step_unchanged _ = settled_unchanged s.time _
 
 pub refused_changes_nothing : RefusedChangesNothing
 refused_changes_nothing s c why e = step_unchanged s why c e

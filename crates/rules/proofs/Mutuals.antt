@@ -1,25 +1,15 @@
 -- Partners that name each other still do after two legs have stepped.
-use Rattle.std.proofs.Common.{◌≡◌, ℕ, ◌≢◌, ◌⊎◌, Some, None, Option, sym, refl, ap, ◌∙◌, subst, inl, inr, arith}
+use Rattle.std.proofs.Common.{◌≡◌, ℕ, ◌≢◌, ◌⊎◌, Some, None, Option, sym, ◌∙◌, inl, inr, arith}
 use Rattle.leg.specs.declared.place.Place.{Place}
-use Rattle.rules.specs.Sound.{Tie, identifies, initiates, sets_up, tied_to, returned}
+use Rattle.rules.specs.Sound.{Tie, tied_to, returned}
 use Rattle.rules.specs.Consistent.{Mutual}
 use Rattle.rules.proofs.Tables.{place_same, place_cases}
 
 pub tied_returned : (t : Tie) (p : Place) → tied_to (returned t p) ≡ p
-tied_returned (identifies _) p = refl
-tied_returned (initiates _) p = refl
-tied_returned (sets_up _) p = refl
-tied_returned (Tie.consulting _) p = refl
-tied_returned (Tie.consulted _) p = refl
-tied_returned (Tie.placing _) p = refl
+tied_returned t p = grind arith
 
-pub returned_back : (t : Tie) (p : Place) → returned (returned t p) (tied_to t) ≡ t
-returned_back (identifies _) p = refl
-returned_back (initiates _) p = refl
-returned_back (sets_up _) p = refl
-returned_back (Tie.consulting _) p = refl
-returned_back (Tie.consulted _) p = refl
-returned_back (Tie.placing _) p = refl
+returned_back : (t : Tie) (p : Place) → returned (returned t p) (tied_to t) ≡ t
+returned_back t p = grind arith
 
 pub some_is : {A : Type 0} (x y : A) → ◌≡◌ {A = Option A} (Some x) (Some y) → x ≡ y
 some_is x y e = cc
@@ -54,26 +44,22 @@ module _ (old new : Place → Option Tie) (p q : Place) (apart : p.index ≢ q.i
   Kept x t = (new (tied_to t) ≡ Some (returned t x)) × ((tied_to t).index ≢ x.index)
 
   at_first : Joined p q (new p) (new q) → (t : Tie) → new p ≡ Some t → Kept p t
-  at_first (inl n) t e = none_some (new p) t n.0 e
-  at_first (inr P) t e =
-      let same : P.tie ≡ t = some_is P.tie t (sym P.first ∙ e) in
-      let to : tied_to t ≡ q = ap tied_to (sym same) ∙ P.to in
-      (ap new to ∙ P.second ∙ ap (λ (x : Tie). Some (returned x p)) same, λ i. apart (sym (ap (λ (x : Place). x.index) (sym to) ∙ i)))
+  at_first (inl n) t e = cc
+  at_first (inr P) t e = let to : tied_to t ≡ q = cc in (cc, λ i. apart cc)
 
   at_second : Joined p q (new p) (new q) → (t : Tie) → new q ≡ Some t → Kept q t
-  at_second (inl n) t e = none_some (new q) t n.1 e
+  at_second (inl n) t e = cc
   at_second (inr P) t e =
-      let same : returned P.tie p ≡ t = some_is (returned P.tie p) t (sym P.second ∙ e) in
-      let to : tied_to t ≡ p = ap tied_to (sym same) ∙ tied_returned P.tie p in
-      let back : returned t q ≡ P.tie = ap (λ (x : Tie). returned x q) (sym same) ∙ ap (returned (returned P.tie p)) (sym P.to) ∙ returned_back P.tie p in
-      (ap new to ∙ P.first ∙ ap Some (sym back), λ i. apart (ap (λ (x : Place). x.index) (sym to) ∙ i))
+      let to : tied_to t ≡ p = cc (tied_returned P.tie p) in
+      let back : returned t q ≡ P.tie = cc (returned_back P.tie p) in
+      (cc, λ i. apart cc)
 
   -- a partner of a leg that did not step did not step
   not_to : (x y z : Place) → Linked old y z → x.index ≢ z.index → (t : Tie) → old (tied_to t) ≡ Some (returned t x) → (tied_to t).index ≢ y.index
   not_to x y z link ne t b i =
       let here : tied_to t ≡ y = place_same (tied_to t) y i in
-      let to : tied_to (returned t x) ≡ z = link (returned t x) (ap old (sym here) ∙ b) in
-      ne (ap (λ (w : Place). w.index) (sym (tied_returned t x) ∙ to))
+      let to : tied_to (returned t x) ≡ z = link (returned t x) cc in
+      ne (cc (tied_returned t x))
 
   elsewhere : (x : Place) → x.index ≢ p.index → x.index ≢ q.index → (t : Tie) → new x ≡ Some t → Kept x t
   elsewhere x a b t e =
@@ -83,9 +69,9 @@ module _ (old new : Place → Option Tie) (p q : Place) (apart : p.index ≢ q.i
   pub mutual_two : Joined p q (new p) (new q) → Mutual new
   mutual_two J x t e =
       elim (place_cases x p) [
-        | inl f ↦ subst (λ (y : Place). Kept y t) (sym f) (at_first J t (ap new (sym f) ∙ e))
+        | inl f ↦ rw f (at_first J t (rw f at e))
         | inr a ↦ elim (place_cases x q) [
-          | inl f ↦ subst (λ (y : Place). Kept y t) (sym f) (at_second J t (ap new (sym f) ∙ e))
+          | inl f ↦ rw f (at_second J t (rw f at e))
           | inr b ↦ elsewhere x a b t e
         ]
       ]

@@ -6,7 +6,6 @@ use Rattle.message.specs.declared.codes.Carrier.TheVariants as carrier
 use Rattle.message.specs.declared.codes.Kind.TheVariants as kind
 use Rattle.message.specs.declared.codes.Operation.{Operation}
 use Rattle.message.specs.declared.codes.ErrorCode.{ErrorCode}
-use Rattle.message.specs.declared.codes.ErrorCode.TheVariants as error
 use Rattle.message.specs.Codes.{error_number}
 use Rattle.message.specs.Format.{Lawful}
 use Rattle.message.specs.Ranges.{inside, span, leg_range, number_range, identity_range, address_range}
@@ -22,28 +21,24 @@ identity_of : (n : ℕ) → n < 32 → inside (span 1 9999) (n + 1) ≡ true
 identity_of n h = grind (arith, nat_tests)
 
 any_error : (e : ErrorCode) → inside (span 1 5) (error_number e) ≡ true
-any_error error.UnrecognizedCallIdentity = refl
-any_error error.EstablishmentFailure = refl
-any_error error.Unspecified = refl
-any_error error.InvalidCallState = refl
-any_error error.SupplementaryServiceInteractionNotAllowed = refl
+any_error e = grind arith
 
 module _ (at : Place) where
   pub release_lawful : Lawful (release_on at)
   release_lawful = record { standing = refl; leg = leg_below at.index at.below; number = refl; identity = refl; address = refl; error = refl }
 
   -- an invoke that may stand in FACILITY and is not confirmed
-  pub notice_lawful : (o : Operation) → permitted carrier.Facility kind.Invoke (operation_byte (Some o)) ≡ true → inside (number_range (Some o)) 0 ≡ true → inside (identity_range kind.Invoke (Some o)) 0 ≡ true → inside (address_range kind.Invoke (Some o)) 0 ≡ true → Lawful (notice_on at o)
-  notice_lawful o s n i a = record { standing = s; leg = leg_below at.index at.below; number = n; identity = i; address = a; error = refl }
+  pub notice_lawful : {o : Operation} → permitted carrier.Facility kind.Invoke (operation_byte (Some o)) ≡ true → inside (number_range (Some o)) 0 ≡ true → inside (identity_range kind.Invoke (Some o)) 0 ≡ true → inside (address_range kind.Invoke (Some o)) 0 ≡ true → Lawful (notice_on at o)
+  notice_lawful s n i a = record { standing = s; leg = leg_below at.index at.below; number = n; identity = i; address = a; error = refl }
 
-  pub request_lawful : (c : Carrier) (o : Operation) (n i a : ℕ) → permitted c kind.Invoke (operation_byte (Some o)) ≡ true → inside (number_range (Some o)) n ≡ true → inside (identity_range kind.Invoke (Some o)) i ≡ true → inside (address_range kind.Invoke (Some o)) a ≡ true → Lawful (request_on at c o n i a)
-  request_lawful c o n i a s x y z = record { standing = s; leg = leg_below at.index at.below; number = x; identity = y; address = z; error = refl }
+  pub request_lawful : {c : Carrier} {o : Operation} {n i a : ℕ} → permitted c kind.Invoke (operation_byte (Some o)) ≡ true → inside (number_range (Some o)) n ≡ true → inside (identity_range kind.Invoke (Some o)) i ≡ true → inside (address_range kind.Invoke (Some o)) a ≡ true → Lawful (request_on at c o n i a)
+  request_lawful s x y z = record { standing = s; leg = leg_below at.index at.below; number = x; identity = y; address = z; error = refl }
 
-  pub result_lawful : (c : Carrier) (o : Operation) (n : ℕ) → permitted c kind.Result (operation_byte (Some o)) ≡ true → inside (number_range (Some o)) n ≡ true → inside (identity_range kind.Result (Some o)) 0 ≡ true → inside (address_range kind.Result (Some o)) 0 ≡ true → Lawful (result_on at c o n)
-  result_lawful c o n s x y z = record { standing = s; leg = leg_below at.index at.below; number = x; identity = y; address = z; error = refl }
+  pub result_lawful : {c : Carrier} {o : Operation} {n : ℕ} → permitted c kind.Result (operation_byte (Some o)) ≡ true → inside (number_range (Some o)) n ≡ true → inside (identity_range kind.Result (Some o)) 0 ≡ true → inside (address_range kind.Result (Some o)) 0 ≡ true → Lawful (result_on at c o n)
+  result_lawful s x y z = record { standing = s; leg = leg_below at.index at.below; number = x; identity = y; address = z; error = refl }
 
-  pub identity_lawful : (n own : ℕ) → InWord n → InWord own → Lawful (identity_on at n own)
-  identity_lawful n own x y = record { standing = refl; leg = leg_below at.index at.below; number = x; identity = identity_of at.index at.below; address = y; error = refl }
+  pub identity_lawful : {n own : ℕ} → InWord n → InWord own → Lawful (identity_on at n own)
+  identity_lawful x y = record { standing = refl; leg = leg_below at.index at.below; number = x; identity = identity_of at.index at.below; address = y; error = refl }
 
-  pub error_lawful : (c : Carrier) (o : Operation) (n : ℕ) (e : ErrorCode) → permitted c kind.Error (operation_byte (Some o)) ≡ true → inside (number_range (Some o)) n ≡ true → inside (identity_range kind.Error (Some o)) 0 ≡ true → inside (address_range kind.Error (Some o)) 0 ≡ true → Lawful (error_on at c o n e)
-  error_lawful c o n e s x y z = record { standing = s; leg = leg_below at.index at.below; number = x; identity = y; address = z; error = any_error e }
+  pub error_lawful : {c : Carrier} {o : Operation} {n : ℕ} {e : ErrorCode} → permitted c kind.Error (operation_byte (Some o)) ≡ true → inside (number_range (Some o)) n ≡ true → inside (identity_range kind.Error (Some o)) 0 ≡ true → inside (address_range kind.Error (Some o)) 0 ≡ true → Lawful (error_on at c o n e)
+  error_lawful {e = e} s x y z = record { standing = s; leg = leg_below at.index at.below; number = x; identity = y; address = z; error = any_error e }

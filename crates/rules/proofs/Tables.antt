@@ -1,5 +1,5 @@
 -- Places, and reading a table of legs after a record was put into it.
-use Rattle.std.proofs.Common.{◌≡◌, ℕ, ◌<◌, ◌≢◌, ◌⊎◌, List, length, get_or, sym, ap, subst, inl, inr, length-set, get_or-set_other, get_or-set_same}
+use Rattle.std.proofs.Common.{arith, ◌≡◌, ℕ, ◌<◌, ◌≢◌, ◌⊎◌, List, length, get_or, ap, subst, inl, inr, length-set, get_or-set_other, get_or-set_same}
 use native.Mathlib.Bridge.{le_prop}
 use Rattle.std.proofs.lemmas.Bool.{cases_eq}
 use Rattle.leg.specs.declared.place.Place.{Place}
@@ -24,7 +24,7 @@ read legs p = get_or legs p.index free_leg
 
 module _ (legs : List Leg) (p : Place) (l : Leg) where
   pub read_same : length legs ≡ 32 → read (put_leg legs p l) p ≡ l
-  read_same e = get_or-set_same legs p.index l free_leg (subst (λ (n : ℕ). p.index < n) (sym e) p.below)
+  read_same e = get_or-set_same legs p.index l free_leg (omega (arith, p.below))
 
   pub read_other : (q : Place) → q.index ≢ p.index → read (put_leg legs p l) q ≡ read legs q
   read_other q ne = get_or-set_other legs p.index q.index l free_leg ne
@@ -36,6 +36,6 @@ module _ (legs : List Leg) (p : Place) (l : Leg) where
   pub all_put : (P : Leg → Type 0) → length legs ≡ 32 → ((q : Place) → P (read legs q)) → P l → (q : Place) → P (read (put_leg legs p l) q)
   all_put P e all new q =
       elim (place_cases q p) [
-        | inl f ↦ subst (λ (x : Place). P (read (put_leg legs p l) x)) (sym f) (subst P (sym (read_same e)) new)
-        | inr ne ↦ subst P (sym (read_other q ne)) (all q)
+        | inl f ↦ rw (f, read_same e) new
+        | inr ne ↦ rw (read_other q ne) (all q)
       ]
