@@ -179,22 +179,25 @@ def lines():
     return out
 
 
-def array(comment, name, element, rows):
-    text = f"// {comment}\npub const {name}: [{element}; {len(rows)}] = [\n"
-    for row in rows:
-        text += f"    {row},\n"
+def array(comment, name, element, cases):
+    text = f"// {comment}\n#[rattlefmt::skip]\npub const {name}: [{element}; {len(cases)}] = [\n"
+    for row, expected in cases:
+        text += f"    ({row}, {expected}),\n"
     return text + "];\n"
 
 
+def fields(row):
+    return row[:4] + [row[i] * 256 + row[i + 1] for i in (4, 6, 8)] + [row[10]]
+
+
 def table():
-    rows = lawful_rows() + edge_rows()
-    fields = [[row[0], row[1], row[2], row[3]] + [row[i] * 256 + row[i + 1] for i in (4, 6, 8)] + [row[10]] for row in rows]
-    cases = [(row, byte) for row, byte in faulty_rows() if len(row) == 16]
+    lawful = [(row, fields(row)) for row in lawful_rows() + edge_rows()]
+    faulty = [(row, byte) for row, byte in faulty_rows() if len(row) == 16]
     return "// Made by tools/message_cases.py, a second reading of the format.\n\n" + "\n".join([
-        array("A lawful row of each combination and at each bound.", "LAWFUL_ROWS", "[u8; 16]", rows),
-        array("Carrier, kind, operation, leg, number, identity, address and error of each.", "LAWFUL_FIELDS", "[u16; 8]", fields),
-        array("Rows with a fault.", "FAULTY_ROWS", "[u8; 16]", [row for row, _ in cases]),
-        array("The first wrong byte of each.", "FAULTY_BYTES", "u8", [byte for _, byte in cases]),
+        array(
+            "A lawful row of each combination and at each bound, with its carrier, kind, operation, leg, number, identity, address and error.",
+            "LAWFUL", "([u8; 16], [u16; 8])", lawful),
+        array("Rows with a fault, each with its first wrong byte.", "FAULTY", "([u8; 16], u8)", faulty),
     ])
 
 
