@@ -4,3 +4,4 @@ pub mod Values
 pub mod Views
 pub mod Reactions
 pub mod Tells
+pub mod Slots

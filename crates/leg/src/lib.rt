@@ -7,6 +7,7 @@ mod places;
 pub mod reaction;
 mod reactions;
 pub mod record;
+mod slots;
 mod step;
 pub mod value;
 pub mod values;

@@ -66,10 +66,9 @@ pub struct Tell {
     pub word: Word,
 }
 
-// Which open request a step ends by a cause of its own, of a leg that ends with it.
+// The open request that a step ends by a cause of its own, of a leg that ends with it.
 #[derive(Clone, Copy, PartialEq, Eq, Debug)]
 pub enum Named {
-    Neither,
     Transfer(Cause),
     Hold(Cause),
 }

@@ -29,7 +29,7 @@ opening l q = cond (in_use l) (Err refusal.LegInUse) (Ok (acting (active_leg q) 
 
 -- clear: a bare RELEASE COMPLETE, and the leg ends
 abbrev pub clearing : Leg → Place → Result Reaction Refusal
-clearing l at = cond (in_use l) (Ok (leaving l (Some (release_on at)) named.Neither (tell_lost l))) (Err refusal.LegFree)
+clearing l at = cond (in_use l) (Ok (leaving l (Some (release_on at)) None (tell_lost l))) (Err refusal.LegFree)
 
 -- A request takes the next number, and is refused where there is none.
 abbrev pub numbered : Option ℕ → (ℕ → Reaction) → Result Reaction Refusal
@@ -69,7 +69,7 @@ abbrev pub declining : Leg → Place → Result Reaction Refusal
 declining l at =
     cond (in_use l)
     (when_ringing l.phase
-    (λ o. Ok (leaving l (Some (error_on at carrier.ReleaseComplete operation.CallTransferSetup o.number error.Unspecified)) named.Neither (tell_lost l)))
+    (λ o. Ok (leaving l (Some (error_on at carrier.ReleaseComplete operation.CallTransferSetup o.number error.Unspecified)) None (tell_lost l)))
     (when_asked l.transfer
     (λ o. Ok (acting (with_transfer l transfer.Idle) (Some (error_on at carrier.Facility operation.CallTransferInitiate o.number error.Unspecified)) note.Done))
     (Err refusal.WrongState)))

@@ -13,6 +13,8 @@ use Rattle.leg.specs.declared.record.Transfer.TheVariants as transfer
 use Rattle.leg.specs.declared.reaction.Timer.{Timer}
 use Rattle.leg.specs.declared.reaction.TimerChange.{TimerChange}
 use Rattle.leg.specs.declared.reaction.TimerChange.TheVariants as timer
+use Rattle.leg.specs.declared.reaction.Slot.{Slot}
+use Rattle.leg.specs.declared.reaction.Slot.TheVariants as slot
 use Rattle.leg.specs.declared.reaction.UpToTwo.{UpToTwo}
 use Rattle.leg.specs.declared.reaction.UpToTwo.TheVariants as few
 use Rattle.leg.specs.declared.reaction.Word.{Word}
@@ -22,6 +24,7 @@ use Rattle.leg.specs.declared.reaction.Named.{Named}
 use Rattle.leg.specs.declared.reaction.Named.TheVariants as named
 use Rattle.leg.specs.declared.reaction.Reaction.{Reaction}
 use Rattle.leg.specs.Reactions.{up_to_two}
+use Rattle.leg.specs.Slots.{timer_slot}
 use Rattle.leg.specs.Tells.{tell_leg}
 use Rattle.leg.specs.Views.{free_leg, transfer_request, hold_request, partner_of, with_transfer}
 
@@ -31,6 +34,21 @@ reaction l m es t h w n = record { leg = l; sent = m; ends = es; transfer_timer 
 -- the record l, perhaps a message, a note, and nothing else
 abbrev pub acting : Leg → Option Message → Note → Reaction
 acting l m n = reaction l m few.Zero timer.Kept timer.Kept None n
+
+-- the same reaction, but that the timer in this slot is stopped or set
+abbrev pub with_timer : Slot → TimerChange → Reaction → Reaction
+with_timer k c r = elim k [
+  | slot.Transfer ↦ reaction r.leg r.sent r.ends c r.hold_timer r.tell r.note
+  | slot.Hold ↦ reaction r.leg r.sent r.ends r.transfer_timer c r.tell r.note
+]
+
+-- a request goes out, and its timer runs
+abbrev pub sending : Leg → Message → Timer → Option Tell → Reaction
+sending l m t w = with_timer (timer_slot t) (timer.Set t) (reaction l (Some m) few.Zero timer.Kept timer.Kept w note.Done)
+
+-- the request on the timer in this slot ends, and the timer stops
+abbrev pub ending : Leg → Slot → Ended → Option Message → Option Tell → Reaction
+ending l k e m w = with_timer k timer.Stopped (reaction l m (few.One e) timer.Kept timer.Kept w note.Done)
 
 -- a message that fits nothing changes nothing
 abbrev pub strayed : Leg → Reaction
@@ -63,15 +81,17 @@ abbrev pub request_end : Option Request → Cause → Option Ended
 request_end o c = elim o [ None ↦ None | Some r ↦ Some (ended_by r.number c) ]
 
 -- The requests of a leg that ends: first the one that the step names, by its cause; then what is left, transfer before hold, as cleared.
-abbrev pub last_ends : Leg → Named → UpToTwo Ended
+abbrev pub last_ends : Leg → Option Named → UpToTwo Ended
 last_ends l k = elim k [
-  | named.Neither ↦ up_to_two (request_end (transfer_request l) cause.Cleared) (request_end (hold_request l) cause.Cleared)
-  | named.Transfer c ↦ up_to_two (request_end (transfer_request l) c) (request_end (hold_request l) cause.Cleared)
-  | named.Hold c ↦ up_to_two (request_end (hold_request l) c) (request_end (transfer_request l) cause.Cleared)
+  | None ↦ up_to_two (request_end (transfer_request l) cause.Cleared) (request_end (hold_request l) cause.Cleared)
+  | Some n ↦ elim n [
+    | named.Transfer c ↦ up_to_two (request_end (transfer_request l) c) (request_end (hold_request l) cause.Cleared)
+    | named.Hold c ↦ up_to_two (request_end (hold_request l) c) (request_end (transfer_request l) cause.Cleared)
+  ]
 ]
 
 -- the leg ends: it is free, both timers stop, its requests end, what it owes is dropped
-abbrev pub leaving : Leg → Option Message → Named → Option Tell → Reaction
+abbrev pub leaving : Leg → Option Message → Option Named → Option Tell → Reaction
 leaving l m k w = reaction free_leg m (last_ends l k) timer.Stopped timer.Stopped w note.Done
 
 abbrev pub tell_to : Option Place → Word → Option Tell

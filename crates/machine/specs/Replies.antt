@@ -35,7 +35,7 @@ identify_result l m =
 abbrev pub initiate_result : Leg → Place → Message → Reaction
 initiate_result l at m =
     when_await_initiate l.transfer
-    (λ n s. cond (n == m.number) (leaving l (Some (release_on at)) (named.Transfer cause.Result) (tell_to s word.Part)) (strayed l))
+    (λ n s. cond (n == m.number) (leaving l (Some (release_on at)) (Some (named.Transfer cause.Result)) (tell_to s word.Part)) (strayed l))
     (strayed l)
 
 abbrev pub hold_result : Leg → Message → Reaction
@@ -76,7 +76,7 @@ hold_fault l m =
 -- a held call that cannot be fetched back is released
 abbrev pub retrieve_fault : Leg → Place → Message → Reaction
 retrieve_fault l at m =
-    when_retrieve_requested l.holder (λ n. cond (n == m.number) (leaving l (Some (release_on at)) (named.Hold cause.Fault) (tell_lost l)) (strayed l)) (strayed l)
+    when_retrieve_requested l.holder (λ n. cond (n == m.number) (leaving l (Some (release_on at)) (Some (named.Hold cause.Fault)) (tell_lost l)) (strayed l)) (strayed l)
 
 -- an error or a reject, by operation, heard by FACILITY
 abbrev pub faulted : Leg → Place → Operation → Message → Reaction
@@ -110,16 +110,16 @@ connected l m = setup_result l m phase.Active (cond (is_alerting l) (acting (wit
 
 -- the far end ended the call
 abbrev pub lost : Leg → Reaction
-lost l = leaving l None named.Neither (tell_lost l)
+lost l = leaving l None None (tell_lost l)
 
 -- RELEASE COMPLETE ends the leg, whatever it brings. A matching result of an initiate parts the secondary first; a matching fault of a set-up is what the request ends by.
 abbrev pub released_by_result : Leg → Message → Reaction
 released_by_result l m =
-    when_await_initiate l.transfer (λ n s. cond (n == m.number) (leaving l None (named.Transfer cause.Result) (tell_to s word.Part)) (lost l)) (lost l)
+    when_await_initiate l.transfer (λ n s. cond (n == m.number) (leaving l None (Some (named.Transfer cause.Result)) (tell_to s word.Part)) (lost l)) (lost l)
 
 abbrev pub released_by_fault : Leg → Message → Reaction
 released_by_fault l m =
-    when_await_setup_response l.transfer (λ n p. cond (n == m.number) (leaving l None (named.Transfer cause.Fault) (tell_leg p word.Lost)) (lost l)) (lost l)
+    when_await_setup_response l.transfer (λ n p. cond (n == m.number) (leaving l None (Some (named.Transfer cause.Fault)) (tell_leg p word.Lost)) (lost l)) (lost l)
 
 abbrev pub released : Leg → Message → Reaction
 released l m =

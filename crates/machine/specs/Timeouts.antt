@@ -32,7 +32,7 @@ transfer_timed_out l at = elim l.transfer [
   | transfer.Idle ↦ expired l slot.Transfer
   | transfer.AwaitIdentify n p ↦ settling (with_transfer l transfer.Idle) (Some (notice_on at operation.CallTransferAbandon)) n cause.Timeout (tell_leg p word.Part)
   | transfer.AwaitInitiate n s ↦ settling (with_transfer l transfer.Idle) None n cause.Timeout (tell_to s word.Abandon)
-  | transfer.AwaitSetupResponse n p ↦ leaving l (Some (release_on at)) (named.Transfer cause.Timeout) (tell_leg p word.Lost)
+  | transfer.AwaitSetupResponse n p ↦ leaving l (Some (release_on at)) (Some (named.Transfer cause.Timeout)) (tell_leg p word.Lost)
   | transfer.AwaitSetup ↦ unawaited l note.SetupLapsed
   | transfer.Asked _ ↦ expired l slot.Transfer
   | transfer.Bound _ ↦ expired l slot.Transfer
@@ -45,7 +45,7 @@ hold_timed_out l at = elim l.holder [
   | holder.NearHolding ↦ expired l slot.Hold
   | holder.RemoteRequested n ↦ hold_settling (with_holder l holder.Idle) n cause.Timeout
   | holder.RemoteHolding ↦ expired l slot.Hold
-  | holder.RetrieveRequested n ↦ leaving l (Some (release_on at)) (named.Hold cause.Timeout) (tell_lost l)
+  | holder.RetrieveRequested n ↦ leaving l (Some (release_on at)) (Some (named.Hold cause.Timeout)) (tell_lost l)
 ]
 
 abbrev pub timed_out : Leg → Place → Slot → Reaction

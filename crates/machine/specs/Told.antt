@@ -41,7 +41,7 @@ abbrev pub bond_completes : Leg → Place → Bond → Reaction
 bond_completes l at b = elim b [
   | bond.Consulting _ ↦ unmoved l
   | bond.Consulted _ ↦ unmoved l
-  | bond.Placing _ o ↦ leaving l (Some (result_on at carrier.ReleaseComplete operation.CallTransferInitiate o.number)) named.Neither None
+  | bond.Placing _ o ↦ leaving l (Some (result_on at carrier.ReleaseComplete operation.CallTransferInitiate o.number)) None None
 ]
 
 -- what a bound leg sends when its partner has ended
@@ -58,7 +58,7 @@ partner_lost l at = elim l.transfer [
   | transfer.Idle ↦ unmoved l
   | transfer.AwaitIdentify n _ ↦ settling (with_transfer l transfer.Idle) (Some (notice_on at operation.CallTransferAbandon)) n cause.Cleared None
   | transfer.AwaitInitiate n _ ↦ unmoved (with_transfer l (transfer.AwaitInitiate n None))
-  | transfer.AwaitSetupResponse _ _ ↦ leaving l (Some (release_on at)) named.Neither None
+  | transfer.AwaitSetupResponse _ _ ↦ leaving l (Some (release_on at)) None None
   | transfer.AwaitSetup ↦ unmoved l
   | transfer.Asked _ ↦ unmoved l
   | transfer.Bound b ↦ parting l (bond_sends at b)
@@ -72,6 +72,6 @@ told_word l at w next = elim w [
   | word.Part ↦ Ok (parting l None)
   | word.Abandon ↦ Ok (parting l (Some (notice_on at operation.CallTransferAbandon)))
   | word.Complete ↦ Ok (when_bound l.transfer (bond_completes l at) (unmoved l))
-  | word.Met ↦ Ok (leaving l (Some (release_on at)) named.Neither None)
+  | word.Met ↦ Ok (leaving l (Some (release_on at)) None None)
   | word.Lost ↦ Ok (partner_lost l at)
 ]

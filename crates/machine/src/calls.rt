@@ -5,7 +5,7 @@ ghost use Rattle.machine.specs.Calls.{opening, clearing, initiating, transferrin
 
 use crate::reactions::{act, send_request};
 use crate::view::View;
-use leg::{Leg, Named, Note, Owed, Phase, Place, Reaction, Refusal, Tell, Timer, Transfer, Word};
+use leg::{Leg, Note, Owed, Phase, Place, Reaction, Refusal, Tell, Timer, Transfer, Word};
 use message::{Carrier, ErrorCode, Operation};
 
 impl View {
@@ -26,7 +26,7 @@ impl View {
         if !self.leg.in_use() {
             return Err(Refusal::LegFree);
         }
-        Ok(self.leave(Some(self.release()), Named::Neither, self.tell_lost()))
+        Ok(self.leave(Some(self.release()), None, self.tell_lost()))
     }
 
     // The number that a request takes.
@@ -146,7 +146,7 @@ impl View {
                     owed.number,
                     unspecified,
                 )),
-                Named::Neither,
+                None,
                 self.tell_lost(),
             )),
             (_, Transfer::Asked(owed)) => Ok(act(

@@ -4,7 +4,7 @@ ghost use Rattle.machine.specs.Replies.{connected_leg, setup_result, alerted, co
 
 use crate::reactions::{act, settle, tell_to};
 use crate::view::View;
-use leg::{Cause, Leg, Named, Note, Phase, Reaction, Tell, Transfer, Word};
+use leg::{Cause, Ended, Leg, Named, Note, Phase, Reaction, Slot, Tell, Transfer, Word};
 use message::{Carrier, Kind, Message, Operation};
 
 impl View {
@@ -30,9 +30,12 @@ impl View {
                 Transfer::AwaitSetupResponse { number, primary },
             ) if number == heard.number => settle(
                 self.reached(phase),
+                Slot::Transfer,
+                Ended {
+                    number,
+                    cause: Cause::Result,
+                },
                 None,
-                number,
-                Cause::Result,
                 Some(Tell {
                     to: primary,
                     word: Word::Complete,
@@ -68,7 +71,7 @@ impl View {
     fn lose(self) -> Reaction
         ensures { result ≡ lost self.leg }
     {
-        self.leave(None, Named::Neither, self.tell_lost())
+        self.leave(None, None, self.tell_lost())
     }
 
     // With a matching result of an initiate the transfer is done: the secondary only parts.
@@ -78,7 +81,7 @@ impl View {
         match self.leg.transfer {
             Transfer::AwaitInitiate { number, secondary } if number == heard.number => self.leave(
                 None,
-                Named::Transfer(Cause::Result),
+                Some(Named::Transfer(Cause::Result)),
                 tell_to(secondary, Word::Part),
             ),
             _ => self.lose(),
@@ -93,7 +96,7 @@ impl View {
             Transfer::AwaitSetupResponse { number, primary } if number == heard.number => {
                 self.leave(
                     None,
-                    Named::Transfer(Cause::Fault),
+                    Some(Named::Transfer(Cause::Fault)),
                     Some(Tell {
                         to: primary,
                         word: Word::Lost,

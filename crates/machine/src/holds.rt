@@ -1,11 +1,11 @@
 // What a leg does at the calls hold and retrieve.
-ghost use Rattle.std.specs.Prelude.{◌≡◌, Some};
+ghost use Rattle.std.specs.Prelude.{◌≡◌, Some, None};
 ghost use Rattle.leg.specs.Views.{with_holder};
 ghost use Rattle.machine.specs.Messages.{notice_on, request_on};
-ghost use Rattle.machine.specs.Reactions.{acting, hold_requesting};
+ghost use Rattle.machine.specs.Reactions.{acting, sending};
 ghost use Rattle.machine.specs.Calls.{holding_by, holding, retrieving};
 
-use crate::reactions::{act, send_hold_request};
+use crate::reactions::{act, send_request};
 use crate::view::View;
 use leg::{HoldKind, Holder, Leg, Note, Reaction, Refusal, Timer};
 use message::{Carrier, Operation};
@@ -13,12 +13,13 @@ use message::{Carrier, Operation};
 impl View {
     // A hold that is asked for, or taken back, at the far end: the request goes out, and its timer runs.
     fn ask_hold(self, number: u16, holder: Holder, operation: Operation, timer: Timer) -> Reaction
-        ensures { result ≡ hold_requesting (with_holder self.leg holder) (request_on self.at Carrier.Facility operation number 0 0) timer }
+        ensures { result ≡ sending (with_holder self.leg holder) (request_on self.at Carrier.Facility operation number 0 0) timer None }
     {
-        send_hold_request(
+        send_request(
             Leg { holder, ..self.leg },
             self.request(Carrier::Facility, operation, number, 0, 0),
             timer,
+            None,
         )
     }
 

@@ -5,10 +5,10 @@ ghost use Rattle.machine.specs.Reactions.{acting};
 ghost use Rattle.machine.specs.Invokes.{failed, identified, owed_for, invoked, ringing_leg, set_up};
 ghost use Rattle.machine.specs.Replies.{served};
 
-use crate::reactions::act;
+use crate::reactions::{act, with_timer};
 use crate::view::View;
 use leg::{
-    FREE, HoldKind, Holder, Leg, Note, Owed, Phase, Place, Reaction, Refusal, Tell, Timer,
+    FREE, HoldKind, Holder, Leg, Note, Owed, Phase, Place, Reaction, Refusal, Slot, Tell, Timer,
     TimerChange, Transfer, Word,
 };
 use message::{Carrier, ErrorCode, Kind, Message, Operation};
@@ -52,10 +52,8 @@ impl View {
             transfer: Transfer::AwaitSetup,
             ..self.leg
         };
-        Reaction {
-            transfer_timer: TimerChange::Set(Timer::CtT2),
-            ..act(awaiting, Some(self.identity(number)), Note::Done)
-        }
+        let given = act(awaiting, Some(self.identity(number)), Note::Done);
+        with_timer(Slot::Transfer, TimerChange::Set(Timer::CtT2), given)
     }
 
     // The far end asks this end to call someone else, and the host is to decide.

@@ -1,25 +1,22 @@
 // The shapes of a leg's reaction.
 ghost use Rattle.std.specs.Prelude.{◌≡◌};
-ghost use Rattle.machine.specs.Reactions.{acting, strayed, requesting, hold_requesting, ended_by, settling, hold_settling, unawaited, request_end, last_ends, leaving, tell_to, tell_lost};
+ghost use Rattle.machine.specs.Reactions.{acting, with_timer, sending, ending, strayed, unawaited, request_end, last_ends, leaving, tell_to, tell_lost};
 
 use crate::view::View;
 use leg::{
-    Cause, Ended, Leg, Named, Note, Place, Reaction, Request, Tell, Timer, TimerChange, Transfer,
-    UpToTwo, Word,
+    Cause, Ended, Leg, Named, Note, Place, Reaction, Request, Slot, Tell, Timer, TimerChange,
+    Transfer, UpToTwo, Word,
 };
 use message::Message;
-
-fn ended_by(number: u16, cause: Cause) -> Ended
-    ensures { result ≡ ended_by number cause }
-{
-    Ended { number, cause }
-}
 
 // The end of a request, where one is open.
 fn request_end(request: Option<Request>, cause: Cause) -> Option<Ended>
     ensures { result ≡ request_end request cause }
 {
-    request.map(|open| ended_by(open.number, cause))
+    request.map(|open| Ended {
+        number: open.number,
+        cause,
+    })
 }
 
 pub(crate) fn tell_to(to: Option<Place>, word: Word) -> Option<Tell>
@@ -43,56 +40,49 @@ pub(crate) fn act(leg: Leg, sent: Option<Message>, note: Note) -> Reaction
     }
 }
 
-// A request goes out, and the transfer timer runs.
-pub(crate) fn send_request(leg: Leg, request: Message, timer: Timer, tell: Option<Tell>) -> Reaction
-    ensures { result ≡ requesting leg request timer tell }
+// The same reaction, but that the timer in this slot is stopped or set.
+pub(crate) fn with_timer(slot: Slot, change: TimerChange, reaction: Reaction) -> Reaction
+    ensures { result ≡ with_timer slot change reaction }
 {
-    Reaction {
-        transfer_timer: TimerChange::Set(timer),
+    match slot {
+        Slot::Transfer => Reaction {
+            transfer_timer: change,
+            ..reaction
+        },
+        Slot::Hold => Reaction {
+            hold_timer: change,
+            ..reaction
+        },
+    }
+}
+
+// A request goes out, and its timer runs.
+pub(crate) fn send_request(leg: Leg, request: Message, timer: Timer, tell: Option<Tell>) -> Reaction
+    ensures { result ≡ sending leg request timer tell }
+{
+    let sent = Reaction {
         tell,
         ..act(leg, Some(request), Note::Done)
-    }
+    };
+    with_timer(timer.slot(), TimerChange::Set(timer), sent)
 }
 
-// A request goes out, and the hold timer runs.
-// Apart from `send_request`: a hold tells no other leg, and a slot as an argument would say what the name says.
-pub(crate) fn send_hold_request(leg: Leg, request: Message, timer: Timer) -> Reaction
-    ensures { result ≡ hold_requesting leg request timer }
-{
-    Reaction {
-        hold_timer: TimerChange::Set(timer),
-        ..act(leg, Some(request), Note::Done)
-    }
-}
-
-// The transfer's request ends, and its timer stops.
+// The request on the timer in this slot ends, and the timer stops.
 pub(crate) fn settle(
     leg: Leg,
+    slot: Slot,
+    ended: Ended,
     sent: Option<Message>,
-    number: u16,
-    cause: Cause,
     tell: Option<Tell>,
 ) -> Reaction
-    ensures { result ≡ settling leg sent number cause tell }
+    ensures { result ≡ ending leg slot ended sent tell }
 {
-    Reaction {
-        ends: UpToTwo::One(ended_by(number, cause)),
-        transfer_timer: TimerChange::Stopped,
+    let settled = Reaction {
+        ends: UpToTwo::One(ended),
         tell,
         ..act(leg, sent, Note::Done)
-    }
-}
-
-// The hold's request ends, and its timer stops.
-// Apart from `settle`: it sends nothing and tells nobody, so as one function it would have two arguments that are none.
-pub(crate) fn settle_hold(leg: Leg, number: u16, cause: Cause) -> Reaction
-    ensures { result ≡ hold_settling leg number cause }
-{
-    Reaction {
-        ends: UpToTwo::One(ended_by(number, cause)),
-        hold_timer: TimerChange::Stopped,
-        ..act(leg, None, Note::Done)
-    }
+    };
+    with_timer(slot, TimerChange::Stopped, settled)
 }
 
 impl View {
@@ -111,21 +101,18 @@ impl View {
             transfer: Transfer::Idle,
             ..self.leg
         };
-        Reaction {
-            transfer_timer: TimerChange::Stopped,
-            ..act(idle, None, note)
-        }
+        with_timer(Slot::Transfer, TimerChange::Stopped, act(idle, None, note))
     }
 
     // The requests that end with the leg: the named one first, then what is left, transfer before hold.
-    fn last_ends(self, named: Named) -> UpToTwo<Ended>
+    fn last_ends(self, named: Option<Named>) -> UpToTwo<Ended>
         ensures { result ≡ last_ends self.leg named }
     {
         let (transfer, hold) = (self.leg.transfer_request(), self.leg.hold_request());
         let (first, cause, second) = match named {
-            Named::Neither => (transfer, Cause::Cleared, hold),
-            Named::Transfer(cause) => (transfer, cause, hold),
-            Named::Hold(cause) => (hold, cause, transfer),
+            None => (transfer, Cause::Cleared, hold),
+            Some(Named::Transfer(cause)) => (transfer, cause, hold),
+            Some(Named::Hold(cause)) => (hold, cause, transfer),
         };
         let ended = request_end(first, cause);
         let left = request_end(second, Cause::Cleared);
@@ -133,7 +120,12 @@ impl View {
     }
 
     // The leg ends: both timers stop, its requests end, and what it owes is dropped.
-    pub(crate) fn leave(self, sent: Option<Message>, named: Named, tell: Option<Tell>) -> Reaction
+    pub(crate) fn leave(
+        self,
+        sent: Option<Message>,
+        named: Option<Named>,
+        tell: Option<Tell>,
+    ) -> Reaction
         ensures { result ≡ leaving self.leg sent named tell }
     {
         Reaction {

@@ -2,9 +2,9 @@
 ghost use Rattle.std.specs.Prelude.{◌≡◌};
 ghost use Rattle.machine.specs.Replies.{resulted, faulted};
 
-use crate::reactions::{settle, settle_hold, tell_to};
+use crate::reactions::{settle, tell_to};
 use crate::view::View;
-use leg::{Bond, Cause, Holder, Leg, Named, Reaction, Tell, Transfer, Word};
+use leg::{Bond, Cause, Ended, Holder, Leg, Named, Reaction, Slot, Tell, Transfer, Word};
 use message::{Message, Operation};
 
 impl View {
@@ -13,6 +13,10 @@ impl View {
         ensures { result ≡ resulted self.leg self.at operation heard }
     {
         let leg = self.leg;
+        let ended = Ended {
+            number: heard.number,
+            cause: Cause::Result,
+        };
         match (operation, leg.holder, leg.transfer) {
             (Operation::CallTransferIdentify, _, Transfer::AwaitIdentify { number, primary })
                 if number == heard.number => {
@@ -22,23 +26,23 @@ impl View {
                     address: heard.address,
                 };
                 let tell = Some(Tell { to: primary, word });
-                settle(Leg { transfer, ..leg }, None, number, Cause::Result, tell)
+                settle(Leg { transfer, ..leg }, Slot::Transfer, ended, None, tell)
             }
             (Operation::CallTransferInitiate, _, Transfer::AwaitInitiate { number, secondary })
                 if number == heard.number => self.leave(
                 Some(self.release()),
-                Named::Transfer(Cause::Result),
+                Some(Named::Transfer(Cause::Result)),
                 tell_to(secondary, Word::Part),
             ),
             (Operation::RemoteHold, Holder::RemoteRequested { number }, _)
                 if number == heard.number => {
                 let holder = Holder::RemoteHolding;
-                settle_hold(Leg { holder, ..leg }, number, Cause::Result)
+                settle(Leg { holder, ..leg }, Slot::Hold, ended, None, None)
             }
             (Operation::RemoteRetrieve, Holder::RetrieveRequested { number }, _)
                 if number == heard.number => {
                 let holder = Holder::Idle;
-                settle_hold(Leg { holder, ..leg }, number, Cause::Result)
+                settle(Leg { holder, ..leg }, Slot::Hold, ended, None, None)
             }
             _ => self.stray(),
         }
@@ -53,6 +57,10 @@ impl View {
             transfer: Transfer::Idle,
             ..leg
         };
+        let ended = Ended {
+            number: heard.number,
+            cause: Cause::Fault,
+        };
         match (operation, leg.holder, leg.transfer) {
             (Operation::CallTransferIdentify, _, Transfer::AwaitIdentify { number, primary })
                 if number == heard.number => {
@@ -60,27 +68,22 @@ impl View {
                     to: primary,
                     word: Word::Part,
                 });
-                settle(idle, None, number, Cause::Fault, tell)
+                settle(idle, Slot::Transfer, ended, None, tell)
             }
             (Operation::CallTransferInitiate, _, Transfer::AwaitInitiate { number, secondary })
                 if number == heard.number => {
-                settle(
-                    idle,
-                    None,
-                    number,
-                    Cause::Fault,
-                    tell_to(secondary, Word::Abandon),
-                )
+                let tell = tell_to(secondary, Word::Abandon);
+                settle(idle, Slot::Transfer, ended, None, tell)
             }
             (Operation::RemoteHold, Holder::RemoteRequested { number }, _)
                 if number == heard.number => {
                 let holder = Holder::Idle;
-                settle_hold(Leg { holder, ..leg }, number, Cause::Fault)
+                settle(Leg { holder, ..leg }, Slot::Hold, ended, None, None)
             }
             (Operation::RemoteRetrieve, Holder::RetrieveRequested { number }, _)
                 if number == heard.number => self.leave(
                 Some(self.release()),
-                Named::Hold(Cause::Fault),
+                Some(Named::Hold(Cause::Fault)),
                 self.tell_lost(),
             ),
             _ => self.stray(),

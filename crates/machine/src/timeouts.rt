@@ -2,9 +2,11 @@
 ghost use Rattle.std.specs.Prelude.{◌≡◌};
 ghost use Rattle.machine.specs.Timeouts.{expired, transfer_timed_out, hold_timed_out, timed_out};
 
-use crate::reactions::{act, settle, settle_hold, tell_to};
+use crate::reactions::{act, settle, tell_to, with_timer};
 use crate::view::View;
-use leg::{Cause, Holder, Leg, Named, Note, Reaction, Slot, Tell, TimerChange, Transfer, Word};
+use leg::{
+    Cause, Ended, Holder, Leg, Named, Note, Reaction, Slot, Tell, TimerChange, Transfer, Word,
+};
 use message::Operation;
 
 impl View {
@@ -12,17 +14,7 @@ impl View {
     fn expire(self, slot: Slot) -> Reaction
         ensures { result ≡ expired self.leg slot }
     {
-        let same = act(self.leg, None, Note::Done);
-        match slot {
-            Slot::Transfer => Reaction {
-                transfer_timer: TimerChange::Stopped,
-                ..same
-            },
-            Slot::Hold => Reaction {
-                hold_timer: TimerChange::Stopped,
-                ..same
-            },
-        }
+        with_timer(slot, TimerChange::Stopped, act(self.leg, None, Note::Done))
     }
 
     // The legs are as before the request, and a far end that would wait for a set-up is told not to; a call that was set up for a transfer is given up.
@@ -33,12 +25,13 @@ impl View {
             transfer: Transfer::Idle,
             ..self.leg
         };
+        let cause = Cause::Timeout;
         match self.leg.transfer {
             Transfer::AwaitIdentify { number, primary } => settle(
                 idle,
+                Slot::Transfer,
+                Ended { number, cause },
                 Some(self.notice(Operation::CallTransferAbandon)),
-                number,
-                Cause::Timeout,
                 Some(Tell {
                     to: primary,
                     word: Word::Part,
@@ -46,14 +39,14 @@ impl View {
             ),
             Transfer::AwaitInitiate { number, secondary } => settle(
                 idle,
+                Slot::Transfer,
+                Ended { number, cause },
                 None,
-                number,
-                Cause::Timeout,
                 tell_to(secondary, Word::Abandon),
             ),
             Transfer::AwaitSetupResponse { primary, .. } => self.leave(
                 Some(self.release()),
-                Named::Transfer(Cause::Timeout),
+                Some(Named::Transfer(cause)),
                 Some(Tell {
                     to: primary,
                     word: Word::Lost,
@@ -74,11 +67,12 @@ impl View {
                     holder: Holder::Idle,
                     ..self.leg
                 };
-                settle_hold(unheld, number, Cause::Timeout)
+                let cause = Cause::Timeout;
+                settle(unheld, Slot::Hold, Ended { number, cause }, None, None)
             }
             Holder::RetrieveRequested { .. } => self.leave(
                 Some(self.release()),
-                Named::Hold(Cause::Timeout),
+                Some(Named::Hold(Cause::Timeout)),
                 self.tell_lost(),
             ),
             Holder::Idle | Holder::NearHolding | Holder::RemoteHolding => self.expire(Slot::Hold),

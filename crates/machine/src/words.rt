@@ -5,7 +5,7 @@ ghost use Rattle.machine.specs.Told.{unmoved, parting, bond_initiates, bond_comp
 
 use crate::reactions::{act, settle};
 use crate::view::View;
-use leg::{Bond, Cause, Leg, Named, Note, Reaction, Refusal, Transfer, Word};
+use leg::{Bond, Cause, Ended, Leg, Note, Reaction, Refusal, Slot, Transfer, Word};
 use message::{Carrier, ErrorCode, Message, Operation};
 
 impl View {
@@ -27,7 +27,7 @@ impl View {
             Bond::Placing { owed, .. } => {
                 let operation = Operation::CallTransferInitiate;
                 let done = self.result(Carrier::ReleaseComplete, operation, owed.number);
-                self.leave(Some(done), Named::Neither, None)
+                self.leave(Some(done), None, None)
             }
             Bond::Consulting { .. } | Bond::Consulted { .. } => self.stay(),
         }
@@ -89,18 +89,19 @@ impl View {
                     transfer: Transfer::Idle,
                     ..self.leg
                 },
+                Slot::Transfer,
+                Ended {
+                    number,
+                    cause: Cause::Cleared,
+                },
                 Some(self.notice(Operation::CallTransferAbandon)),
-                number,
-                Cause::Cleared,
                 None,
             ),
             Transfer::AwaitInitiate { number, .. } => self.go_on(Transfer::AwaitInitiate {
                 number,
                 secondary: None,
             }),
-            Transfer::AwaitSetupResponse { .. } => {
-                self.leave(Some(self.release()), Named::Neither, None)
-            }
+            Transfer::AwaitSetupResponse { .. } => { self.leave(Some(self.release()), None, None) }
             Transfer::Bound(bond) => self.part(self.farewell(bond)),
             Transfer::Idle | Transfer::AwaitSetup | Transfer::Asked(_) => self.stay(),
         }
@@ -125,7 +126,7 @@ impl View {
             (Word::Abandon, _) => {
                 Ok(self.part(Some(self.notice(Operation::CallTransferAbandon))))
             }
-            (Word::Met, _) => Ok(self.leave(Some(self.release()), Named::Neither, None)),
+            (Word::Met, _) => Ok(self.leave(Some(self.release()), None, None)),
             (Word::Lost, _) => Ok(self.partner_lost()),
             (Word::Place { .. } | Word::Initiate { .. } | Word::Complete, _) => Ok(self.stay()),
         }

@@ -129,7 +129,7 @@ module _ {Other : Place → Word → Bool} {at : Place} where
       (strayed_fine S)
   resulted_fine l operation.CallTransferInitiate m S M =
       by_initiate (Fine Other at l) l.transfer m.number _ _
-      (λ n s e. leaving_fine (named.Transfer cause.Result) (release_lawful at) (tied e (part_tells s)) (part_few (tie_of l) s))
+      (λ n s e. leaving_fine (Some (named.Transfer cause.Result)) (release_lawful at) (tied e (part_tells s)) (part_few (tie_of l) s))
       (strayed_fine S)
   resulted_fine l operation.RemoteHold m S M = hold_reply_fine l m holder.RemoteHolding cause.Result S
   resulted_fine l operation.RemoteRetrieve m S M =
@@ -147,7 +147,7 @@ module _ {Other : Place → Word → Bool} {at : Place} where
       (strayed_fine S)
   faulted_fine l operation.RemoteHold m S = hold_reply_fine l m holder.Idle cause.Fault S
   faulted_fine l operation.RemoteRetrieve m S =
-      by_retrieve (Fine Other at l) l.holder m.number _ _ (λ n e. lost_fine (named.Hold cause.Fault) (release_lawful at)) (strayed_fine S)
+      by_retrieve (Fine Other at l) l.holder m.number _ _ (λ n e. lost_fine (Some (named.Hold cause.Fault)) (release_lawful at)) (strayed_fine S)
   faulted_fine l _ m S = strayed_fine S
 
   answered : {l : Leg} (p : Phase) → Sound l → GoesOn p → (n : ℕ) (q : Place) → l.transfer ≡ transfer.AwaitSetupResponse n q → Fine Other at l (settling (connected_leg l p) None n cause.Result (tell_leg q word.Complete))
@@ -176,16 +176,16 @@ module _ {Other : Place → Word → Bool} {at : Place} where
   released_fine l m =
       by_test (Fine Other at l) (of_kind m.kind kind.Result && names m.operation operation.CallTransferInitiate) _ _
       (λ _. by_initiate (Fine Other at l) l.transfer m.number _ _
-      (λ n s e. leaving_fine (named.Transfer cause.Result) tt (tied e (part_tells s)) (part_few (tie_of l) s))
+      (λ n s e. leaving_fine (Some (named.Transfer cause.Result)) tt (tied e (part_tells s)) (part_few (tie_of l) s))
       gone)
       (λ _. by_test (Fine Other at l) ((of_kind m.kind kind.Error || of_kind m.kind kind.Reject) && names m.operation operation.CallTransferSetup) _ _
       (λ _. by_response (Fine Other at l) l.transfer m.number _ _
-      (λ n p e. leaving_fine (named.Transfer cause.Fault) tt (tied e (loses (Tie.sets_up p))) (ap (λ (t : Transfer). end_follows (transfer_tie t) (tell_leg p word.Lost)) e))
+      (λ n p e. leaving_fine (Some (named.Transfer cause.Fault)) tt (tied e (loses (Tie.sets_up p))) (ap (λ (t : Transfer). end_follows (transfer_tie t) (tell_leg p word.Lost)) e))
       gone)
       (λ _. gone))
     where
       gone : Fine Other at l (lost l)
-      gone = lost_fine named.Neither tt
+      gone = lost_fine None tt
 
   served_fine : (l : Leg) (own : ℕ) (m : Message) (o : Operation) (k : Kind) → m.kind ≡ k → Sound l → InWord own → Told m k o
       → Fine Other at l (elim k [ kind.Nothing ↦ strayed l | kind.Invoke ↦ invoked l at own o m | kind.Result ↦ resulted l at o m | kind.Error ↦ faulted l at o m | kind.Reject ↦ faulted l at o m ])

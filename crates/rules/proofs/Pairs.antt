@@ -100,7 +100,7 @@ module _ (l : Leg) (q : Place) where
     | transfer.Idle ↦ unmoved l
     | transfer.AwaitIdentify n _ ↦ settling (with_transfer l transfer.Idle) (Some (notice_on q operation.CallTransferAbandon)) n cause.Cleared None
     | transfer.AwaitInitiate n _ ↦ unmoved (with_transfer l (transfer.AwaitInitiate n None))
-    | transfer.AwaitSetupResponse _ _ ↦ leaving l (Some (release_on q)) named.Neither None
+    | transfer.AwaitSetupResponse _ _ ↦ leaving l (Some (release_on q)) None None
     | transfer.AwaitSetup ↦ unmoved l
     | transfer.Asked _ ↦ unmoved l
     | transfer.Bound b ↦ parting l (bond_sends q b)
@@ -130,7 +130,7 @@ module _ (l : Leg) (q : Place) where
   lost_zero u t m f = grind arith
 
 -- a leg that calls has no hold request, so it names one end at most
-calling_few : (l : Leg) → Sound l → (n : ℕ) (p : Place) → l.transfer ≡ transfer.AwaitSetupResponse n p → is_two (last_ends l named.Neither) ≡ false
+calling_few : (l : Leg) → Sound l → (n : ℕ) (p : Place) → l.transfer ≡ transfer.AwaitSetupResponse n p → is_two (last_ends l None) ≡ false
 calling_few l S n p e = grind arith
 
 lost_few : (l : Leg) (q : Place) (u : Transfer) (t : Tie) → Sound l → l.transfer ≡ u → Makes t u → is_two (lost_in l q u).ends ≡ false

@@ -29,7 +29,7 @@ module _ (Other : Place → Word → Bool) (at : Place) where
   opening_fine q _ Q = tt
 
   pub clearing_fine : (l : Leg) → FineIf Other at l (clearing l at)
-  clearing_fine l = by_test (FineIf Other at l) (in_use l) _ _ (λ _. lost_fine named.Neither (release_lawful at)) (λ _. tt)
+  clearing_fine l = by_test (FineIf Other at l) (in_use l) _ _ (λ _. lost_fine None (release_lawful at)) (λ _. tt)
 
   pub numbered_fine : (l : Leg) (next : Option ℕ) (f : ℕ → Reaction) → NextInRange next → ((n : ℕ) → InWord n → Fine Other at l (f n)) → FineIf Other at l (numbered next f)
   numbered_fine l None f N g = tt
@@ -61,7 +61,7 @@ module _ (Other : Place → Word → Bool) (at : Place) where
   accepting_fine _ = tt
 
   pub declining_fine : {l : Leg} → Sound l → FineIf Other at l (declining l at)
-  declining_fine (ringing q o Q O) = lost_fine named.Neither (error_lawful at refl O.number refl refl)
+  declining_fine (ringing q o Q O) = lost_fine None (error_lawful at refl O.number refl refl)
   declining_fine (active q _ h d Q (asked o O) H) = acting_fine (active q _ h d Q idle H) (error_lawful at refl O.number refl refl) refl
   declining_fine _ = tt
 
@@ -92,7 +92,7 @@ module _ (Other : Place → Word → Bool) (at : Place) where
   retrieving_fine next _ N = tt
 
   pub transfer_timed_out_fine : {l : Leg} → Sound l → Fine Other at l (transfer_timed_out l at)
-  transfer_timed_out_fine (calling q n p Q) = leaving_fine (named.Transfer cause.Timeout) (release_lawful at) (loses (Tie.sets_up p)) refl
+  transfer_timed_out_fine (calling q n p Q) = leaving_fine (Some (named.Transfer cause.Timeout)) (release_lawful at) (loses (Tie.sets_up p)) refl
   transfer_timed_out_fine (active q _ h d Q (identify n p) H) =
       record { sound = active q _ h d Q idle H; lawful = notice_lawful at refl refl refl refl; tells = parts p; few = λ _. refl }
   transfer_timed_out_fine (active q _ h d Q (initiate n s) H) = record { sound = active q _ h d Q idle H; lawful = tt; tells = abandon_tells s; few = λ _. refl }
@@ -101,7 +101,7 @@ module _ (Other : Place → Word → Bool) (at : Place) where
 
   pub hold_timed_out_fine : {l : Leg} → Sound l → Fine Other at l (hold_timed_out l at)
   hold_timed_out_fine (active q t _ _ Q T (holds (holder.RemoteRequested n))) = record { sound = active q t _ None Q T (holds holder.Idle); lawful = tt; tells = keeps _; few = λ _. refl }
-  hold_timed_out_fine (active q t _ _ Q T (holds (holder.RetrieveRequested n))) = lost_fine (named.Hold cause.Timeout) (release_lawful at)
+  hold_timed_out_fine (active q t _ _ Q T (holds (holder.RetrieveRequested n))) = lost_fine (Some (named.Hold cause.Timeout)) (release_lawful at)
   hold_timed_out_fine S = expired_fine slot.Hold S
 
   pub timed_out_fine : {l : Leg} (k : Slot) → Sound l → Fine Other at l (timed_out l at k)

@@ -63,7 +63,7 @@ pub idle_tie : (l : Leg) → is_idle l ≡ true → tie_of l ≡ None
 idle_tie l e = grind arith
 
 -- where the partner of a leg that ends may name an end, this leg names one at most
-lost_few : (t : Transfer) (h : Holder) (k : Named) → end_follows (transfer_tie t) (tell_to (partner_of (leg phase.Free 0 t h None)) word.Lost) ≡ true → is_two (last_ends (leg phase.Free 0 t h None) k) ≡ false
+lost_few : (t : Transfer) (h : Holder) (k : Option Named) → end_follows (transfer_tie t) (tell_to (partner_of (leg phase.Free 0 t h None)) word.Lost) ≡ true → is_two (last_ends (leg phase.Free 0 t h None) k) ≡ false
 lost_few t h k e = grind arith
 
 -- a secondary that parts names no end
@@ -93,10 +93,10 @@ module _ {Other : Place → Word → Bool} {at : Place} where
   lost_tells (transfer.Bound (bond.Placing n _)) = loses (Tie.placing n)
   lost_tells _ = keeps None
 
-  pub leaving_fine : {l : Leg} {m : Option Message} {w : Option Tell} (k : Named) → LawfulIf m → Tells Other at (tie_of l) w None → end_follows (tie_of l) w ≡ false → Fine Other at l (leaving l m k w)
+  pub leaving_fine : {l : Leg} {m : Option Message} {w : Option Tell} (k : Option Named) → LawfulIf m → Tells Other at (tie_of l) w None → end_follows (tie_of l) w ≡ false → Fine Other at l (leaving l m k w)
   leaving_fine k L T f = record { sound = free; lawful = L; tells = T; few = λ e. cc }
 
-  pub lost_fine : {l : Leg} {m : Option Message} (k : Named) → LawfulIf m → Fine Other at l (leaving l m k (tell_lost l))
+  pub lost_fine : {l : Leg} {m : Option Message} (k : Option Named) → LawfulIf m → Fine Other at l (leaving l m k (tell_lost l))
   lost_fine {l = l} k L = record { sound = free; lawful = L; tells = lost_tells l.transfer; few = lost_few l.transfer l.holder k }
 
   -- the secondary of an initiate, if there is one, parts with it or is abandoned

@@ -49,7 +49,7 @@ abandon_lawful at = notice_lawful at refl refl refl refl
 pub parting_fine : {l : Leg} {m : Option Message} → Sound l → is_active l ≡ true → LawfulIf m → FineTold (parting l m)
 parting_fine S e L = record { sound = with_transfer_lem S e idle; lawful = L; nobody = refl }
 
-leaves_fine : {m : Option Message} (l : Leg) → LawfulIf m → FineTold (leaving l m named.Neither None)
+leaves_fine : {m : Option Message} (l : Leg) → LawfulIf m → FineTold (leaving l m None None)
 leaves_fine l L = record { sound = free; lawful = L; nobody = refl }
 
 -- an active leg that is bound
