@@ -16,7 +16,6 @@ use Rattle.leg.specs.declared.record.HoldKind.TheVariants as hold
 use Rattle.leg.specs.declared.record.Leg.{Leg}
 use Rattle.leg.specs.declared.reaction.Timer.TheVariants as timer
 use Rattle.leg.specs.declared.reaction.Word.TheVariants as word
-use Rattle.leg.specs.declared.reaction.Named.TheVariants as named
 use Rattle.leg.specs.declared.reaction.Reaction.{Reaction}
 use Rattle.leg.specs.Tells.{tell_leg}
 use Rattle.leg.specs.Views.{active_leg, calling_leg, in_use, is_active, is_idle, is_unheld, when_ringing, when_asked, with_phase, with_transfer, with_holder}

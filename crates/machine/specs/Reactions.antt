@@ -42,36 +42,36 @@ with_timer k c r = elim k [
   | slot.Hold ↦ reaction r.leg r.sent r.ends r.transfer_timer c r.tell r.note
 ]
 
+-- a message that fits nothing changes nothing
+abbrev pub strayed : Leg → Reaction
+strayed l = acting l None note.Stray
+
 -- a request goes out, and its timer runs
 abbrev pub sending : Leg → Message → Timer → Option Tell → Reaction
 sending l m t w = with_timer (timer_slot t) (timer.Set t) (reaction l (Some m) few.Zero timer.Kept timer.Kept w note.Done)
+
+-- a request goes out, and the transfer timer runs
+abbrev pub requesting : Leg → Message → Timer → Option Tell → Reaction
+requesting l m t w = with_timer slot.Transfer (timer.Set t) (reaction l (Some m) few.Zero timer.Kept timer.Kept w note.Done)
+
+-- a request goes out, and the hold timer runs
+abbrev pub hold_requesting : Leg → Message → Timer → Reaction
+hold_requesting l m t = with_timer slot.Hold (timer.Set t) (reaction l (Some m) few.Zero timer.Kept timer.Kept None note.Done)
+
+abbrev pub ended_by : ℕ → Cause → Ended
+ended_by n c = record { number = n; cause = c }
 
 -- the request on the timer in this slot ends, and the timer stops
 abbrev pub ending : Leg → Slot → Ended → Option Message → Option Tell → Reaction
 ending l k e m w = with_timer k timer.Stopped (reaction l m (few.One e) timer.Kept timer.Kept w note.Done)
 
--- a message that fits nothing changes nothing
-abbrev pub strayed : Leg → Reaction
-strayed l = acting l None note.Stray
-
--- a request goes out, and the transfer timer runs
-abbrev pub requesting : Leg → Message → Timer → Option Tell → Reaction
-requesting l m t w = reaction l (Some m) few.Zero (timer.Set t) timer.Kept w note.Done
-
--- a request goes out, and the hold timer runs
-abbrev pub hold_requesting : Leg → Message → Timer → Reaction
-hold_requesting l m t = reaction l (Some m) few.Zero timer.Kept (timer.Set t) None note.Done
-
-abbrev pub ended_by : ℕ → Cause → Ended
-ended_by n c = record { number = n; cause = c }
-
 -- the transfer's request ends, and its timer stops
 abbrev pub settling : Leg → Option Message → ℕ → Cause → Option Tell → Reaction
-settling l m n c w = reaction l m (few.One (ended_by n c)) timer.Stopped timer.Kept w note.Done
+settling l m n c w = ending l slot.Transfer (ended_by n c) m w
 
 -- the hold's request ends, and its timer stops
 abbrev pub hold_settling : Leg → ℕ → Cause → Reaction
-hold_settling l n c = reaction l None (few.One (ended_by n c)) timer.Kept timer.Stopped None note.Done
+hold_settling l n c = ending l slot.Hold (ended_by n c) None None
 
 -- the set-up is awaited no longer, and its timer stops
 abbrev pub unawaited : Leg → Note → Reaction
