@@ -23,6 +23,11 @@ unless_fault : (o : Option ℕ) (m : Message) (i : ℕ) → fault i ≡ unless o
 unless_fault None m i e = cc
 unless_fault (Some j) m i e = ap Some (same_fault j i (sym e))
 
+-- pairs within pairs, written as a list
+infixr 40 ◌&◌
+◌&◌ : {A B : Type 0} → A → B → A × B
+a & b = (a, b)
+
 -- a fact of each place of a list, counted from n
 abbrev Each : (ℕ → Bool → Type 0) → ℕ → List Bool → Type 0
 Each P n [] = Unit {0}
@@ -47,34 +52,22 @@ fields_right : (bytes : List ℕ) (i : ℕ) (m : Message) → Lawful m → Begin
 fields_right bytes i m h same =
     let at : (j : ℕ) → j ≤ i → byte bytes j ≡ byte (row_of m) j = λ j le. let t = end_after i in same j (omega arith) in
     let next : (j : ℕ) → field_end j ≡ j + 2 → j ≤ i → byte bytes (j + 1) ≡ byte (row_of m) (j + 1) = λ j two le. same (j + 1) (word_ends i j two le) in
-    let named : 2 ≤ i → operation_of (byte bytes 2) ≡ m.operation = λ le. ap operation_of (at 2 le) ∙ operation_back m.operation in (
-      λ le. simp (at 2 le, h.standing),
-      (
-        λ le. simp (at 3 le, h.leg),
-        (
-          λ le. simp (named (omega arith), at 4 le, next 4 refl le, div-add-mod', h.number),
-          (
-            λ le. refl,
-            (
-              λ le. simp (named (omega arith), at 6 le, next 6 refl le, div-add-mod', h.identity),
-              (
-                λ le. refl,
-                (
-                  λ le. simp (named (omega arith), at 8 le, next 8 refl le, div-add-mod', h.address),
-                  (
-                    λ le. refl,
-                    (
-                      λ le. simp (at 10 le, h.error),
-                      (λ le. simp (at 11 le), (λ le. simp (at 12 le), (λ le. simp (at 13 le), (λ le. simp (at 14 le), (λ le. simp (at 15 le), tt))))),
-                    ),
-                  ),
-                ),
-              ),
-            ),
-          ),
-        ),
-      ),
-    )
+    let named : 2 ≤ i → operation_of (byte bytes 2) ≡ m.operation = λ le. ap operation_of (at 2 le) ∙ operation_back m.operation in
+    (λ le. simp (at 2 le, h.standing))
+    & (λ le. simp (at 3 le, h.leg))
+    & (λ le. simp (named (omega arith), at 4 le, next 4 refl le, div-add-mod', h.number))
+    & (λ le. refl)
+    & (λ le. simp (named (omega arith), at 6 le, next 6 refl le, div-add-mod', h.identity))
+    & (λ le. refl)
+    & (λ le. simp (named (omega arith), at 8 le, next 8 refl le, div-add-mod', h.address))
+    & (λ le. refl)
+    & (λ le. simp (at 10 le, h.error))
+    & (λ le. simp (at 11 le))
+    & (λ le. simp (at 12 le))
+    & (λ le. simp (at 13 le))
+    & (λ le. simp (at 14 le))
+    & (λ le. simp (at 15 le))
+    & tt
 
 second_or_later : (ws : List Bool) (n i : ℕ) → first n ws ≡ Some i → n ≤ i
 second_or_later [] n i e = cc
@@ -192,54 +185,25 @@ completed_begins c k bytes i small h h16 ec ek e j lt =
     let r = right_before (wrongs (meant c k bytes) bytes) 2 i e in
     let stands = not-false (permitted c k (byte bytes 2)) (r.0 h) in
     let ends = r.1.1.1.1.1.1.1.1 in
-    place (λ p. p < i → byte bytes p ≡ byte (row_of (completed c k bytes i)) p) 16 0 j (
-      λ _. sym (numbered_has carrier_number (byte bytes 0) carriers c ec),
-      (
-        λ _. sym (numbered_has kind_number (byte bytes 1) kinds k ek),
-        (
-          λ _. sym (among_named (byte bytes 2) (standing c k) stands),
-          (
-            λ p. sym (kept_is i 3 (byte bytes 3) leg_range p),
-            (
-              λ p. (kept_word i 4 (byte bytes 4) (byte bytes 5) (number_range o) p (small 5)).0,
-              (
-                λ p. (kept_word i 4 (byte bytes 4) (byte bytes 5) (number_range o) (omega arith) (small 5)).1,
-                (
-                  λ p. (kept_word i 6 (byte bytes 6) (byte bytes 7) (identity_range k o) p (small 7)).0,
-                  (
-                    λ p. (kept_word i 6 (byte bytes 6) (byte bytes 7) (identity_range k o) (omega arith) (small 7)).1,
-                    (
-                      λ p. (kept_word i 8 (byte bytes 8) (byte bytes 9) (address_range k o) p (small 9)).0,
-                      (
-                        λ p. (kept_word i 8 (byte bytes 8) (byte bytes 9) (address_range k o) (omega arith) (small 9)).1,
-                        (
-                          λ p. error_kept i (byte bytes 10) k p (not-false (inside (error_range k) (byte bytes 10)) (ends.0 p)),
-                          (
-                            λ p. zero_is (byte bytes 11) (ends.1.0 p),
-                            (
-                              λ p. zero_is (byte bytes 12) (ends.1.1.0 p),
-                              (
-                                λ p. zero_is (byte bytes 13) (ends.1.1.1.0 p),
-                                (
-                                  λ p. zero_is (byte bytes 14) (ends.1.1.1.1.0 p),
-                                  (
-                                    λ p. zero_is (byte bytes 15) (ends.1.1.1.1.1.0 p),
-                                    tt,
-                                  ),
-                                ),
-                              ),
-                            ),
-                          ),
-                        ),
-                      ),
-                    ),
-                  ),
-                ),
-              ),
-            ),
-          ),
-        ),
-      ),
+    place (λ p. p < i → byte bytes p ≡ byte (row_of (completed c k bytes i)) p) 16 0 j
+    (
+    (λ _. sym (numbered_has carrier_number (byte bytes 0) carriers c ec))
+    & (λ _. sym (numbered_has kind_number (byte bytes 1) kinds k ek))
+    & (λ _. sym (among_named (byte bytes 2) (standing c k) stands))
+    & (λ p. sym (kept_is i 3 (byte bytes 3) leg_range p))
+    & (λ p. (kept_word i 4 (byte bytes 4) (byte bytes 5) (number_range o) p (small 5)).0)
+    & (λ p. (kept_word i 4 (byte bytes 4) (byte bytes 5) (number_range o) (omega arith) (small 5)).1)
+    & (λ p. (kept_word i 6 (byte bytes 6) (byte bytes 7) (identity_range k o) p (small 7)).0)
+    & (λ p. (kept_word i 6 (byte bytes 6) (byte bytes 7) (identity_range k o) (omega arith) (small 7)).1)
+    & (λ p. (kept_word i 8 (byte bytes 8) (byte bytes 9) (address_range k o) p (small 9)).0)
+    & (λ p. (kept_word i 8 (byte bytes 8) (byte bytes 9) (address_range k o) (omega arith) (small 9)).1)
+    & (λ p. error_kept i (byte bytes 10) k p (not-false (inside (error_range k) (byte bytes 10)) (ends.0 p)))
+    & (λ p. zero_is (byte bytes 11) (ends.1.0 p))
+    & (λ p. zero_is (byte bytes 12) (ends.1.1.0 p))
+    & (λ p. zero_is (byte bytes 13) (ends.1.1.1.0 p))
+    & (λ p. zero_is (byte bytes 14) (ends.1.1.1.1.0 p))
+    & (λ p. zero_is (byte bytes 15) (ends.1.1.1.1.1.0 p))
+    & tt
     ) (omega arith) (omega arith) lt
 
 -- a fault past byte 2 is found in a field

@@ -67,8 +67,10 @@ words m =
     (attached_words m.kind m.operation ++
     (codes " leg=" ++ (decimal m.leg ++ (number_words m ++ (call_words m ++ error_words m.error)))))
 
+-- the first wrong byte of a row that is no message
 abbrev pub fault_words : MessageFault → List ℕ
 fault_words f = codes "fault " ++ decimal f.byte
 
+-- a number that an enumeration has no case for
 abbrev pub unknown_words : UnknownNumber → List ℕ
 unknown_words u = codes "unknown number " ++ decimal u.number

@@ -31,7 +31,7 @@ impl<R: BufRead, W: Write> Session<R, W> {
 
     // Every line, and then how many there were.
     fn run(&mut self) -> io::Result<()> {
-        // A loop that waits on input has no bound of its own, and each loop is written with one: this is out of reach.
+        // The input ends the loop, but a loop is proved to end by itself: this bound is out of reach.
         for _ in 0..u64::MAX {
             if !self.one_line()? {
                 break;
