@@ -34,18 +34,17 @@ pub record SoFar (w rest : ℕ) (best : Option Due) (dl : List ℕ) : Type 0 whe
   pub won : (k a : ℕ) → bitmap_meant w dl k ≡ Some a → (bit_at rest k ≡ 1) ⊎ IsSomeAnd best (λ d. NoLater d.key d.deadline k a)
 
 -- the key k is taken of rest, and its deadline is smaller than the best so far: r is the test, and Q what it says of a best
-module _ (w rest v : ℕ) (dl : List ℕ) (k at : ℕ) (low : IsLowest rest k) (taken : Without rest k v) (is : at ≡ get_or dl k 0) where
-  module _ (r : Bool) (Q : Due → Type 0) (tells : (d : Due) → Q d → r ≡ ltb at d.deadline) (sooner : r ≡ true) where
-    beaten : (best : Option Due) (i a : ℕ) → MatchOption best (IsTrue r) Q → IsSomeAnd best (λ d. NoLater d.key d.deadline i a) → NoLater k at i a
-    beaten None i a m h = absurd h
-    beaten (Some d) i a m h = grind (arith, nat_tests, h.0, tells d m)
+module _ (w rest v : ℕ) (dl : List ℕ) (k at : ℕ) (low : IsLowest rest k) (taken : Without rest k v) (is : at ≡ get_or dl k 0) (r : Bool) (Q : Due → Type 0) (tells : (d : Due) → Q d → r ≡ ltb at d.deadline) (sooner : r ≡ true) where
+  beaten : (best : Option Due) (i a : ℕ) → MatchOption best (IsTrue r) Q → IsSomeAnd best (λ d. NoLater d.key d.deadline i a) → NoLater k at i a
+  beaten None i a m h = absurd h
+  beaten (Some d) i a m h = grind (arith, nat_tests, h.0, tells d m)
 
-    pub takes : (best : Option Due) → k < 64 → SoFar w rest best dl → MatchOption best (IsTrue r) Q → SoFar w v (Some (record { key = k; deadline = at })) dl
-    takes best l h m = record {
-      later = λ i b. grind (arith, taken.off, taken.others i, low.least i, h.later i);
-      runs = grind (arith, nat_tests, (h.later k low.on).0);
-      won = λ i a e. grind (arith, nat_tests, h.won i a e, taken.others i, beaten best i a m);
-    }
+  pub takes : (best : Option Due) → k < 64 → SoFar w rest best dl → MatchOption best (IsTrue r) Q → SoFar w v (Some (record { key = k; deadline = at })) dl
+  takes best l h m = record {
+    later = λ i b. grind (arith, taken.off, taken.others i, low.least i, h.later i);
+    runs = grind (arith, nat_tests, (h.later k low.on).0);
+    won = λ i a e. grind (arith, nat_tests, h.won i a e, taken.others i, beaten best i a m);
+  }
 
 pub first_found : (w : ℕ) (dl : List ℕ) (best : Option Due) → SoFar w 0 best dl → IsFirstDue (bitmap_meant w dl) best
 first_found w dl None h = λ k. grind (arith, nat_tests, h.won k (get_or dl k 0))
