@@ -1,5 +1,5 @@
 -- What a word and the deadlines mean after set and stop, and the step of a search for the first.
-use Rattle.std.proofs.Common.{◌≡◌, ℕ, ◌*◌, ◌%◌, ◌^◌, ◌<◌, ◌≢◌, eqb, ◌⊎◌, List, length, get_or, set, Some, None, Option, Bool, true, false, ltb, refl, inl, inr, ⊎_elim, arith}
+use Rattle.std.proofs.Common.{◌≡◌, ℕ, ◌*◌, ◌%◌, ◌^◌, ◌<◌, ◌≢◌, eqb, ◌⊎◌, List, length, get_or, set, Some, None, Option, Bool, true, ltb, refl, arith}
 use Rattle.std.specs.Prelude.{IfSome, IsSomeAnd, MatchOption, IsTrue}
 use Rattle.timers.specs.declared.meaning.Due.{Due}
 use Rattle.timers.specs.Order.{NoLater}
@@ -33,39 +33,17 @@ pub record SoFar (w rest : ℕ) (best : Option Due) (dl : List ℕ) : Type 0 whe
   pub runs : IfSome best (λ d. bitmap_meant w dl d.key ≡ Some d.deadline)
   pub won : (k a : ℕ) → bitmap_meant w dl k ≡ Some a → (bit_at rest k ≡ 1) ⊎ IsSomeAnd best (λ d. NoLater d.key d.deadline k a)
 
--- whether a deadline is smaller than the best so far: r, as a test of its value tells
-abbrev pub Beats : ℕ → Option Due → Bool → Type 0
-Beats at best r = MatchOption best (IsTrue r) (λ d. r ≡ ltb at d.deadline)
+-- the key k is taken of rest, and its deadline is smaller than the best so far: r is the test, and Q what it says of a best
+module _ (w rest v : ℕ) (dl : List ℕ) (k at : ℕ) (low : IsLowest rest k) (taken : Without rest k v) (is : at ≡ get_or dl k 0) (r : Bool) (Q : Due → Type 0) (tells : (d : Due) → Q d → r ≡ ltb at d.deadline) (sooner : r ≡ true) where
+  beaten : (best : Option Due) (i a : ℕ) → MatchOption best (IsTrue r) Q → IsSomeAnd best (λ d. NoLater d.key d.deadline i a) → NoLater k at i a
+  beaten None i a m h = absurd h
+  beaten (Some d) i a m h = grind (arith, nat_tests, h.0, tells d m)
 
-pub tested : (at : ℕ) (best : Option Due) (r : Bool) (Q : Due → Type 0) → MatchOption best (IsTrue r) Q → ((d : Due) → Q d → r ≡ ltb at d.deadline) → Beats at best r
-tested at None r Q h same = h
-tested at (Some d) r Q h same = same d h
-
--- the key k, which is taken of rest, with its deadline
-module _ (w rest v : ℕ) (dl : List ℕ) (k at : ℕ) (low : IsLowest rest k) (taken : Without rest k v) (is : at ≡ get_or dl k 0) where
-  rises : (i : ℕ) → bit_at v i ≡ 1 → (bit_at rest i ≡ 1) × (k < i)
-  rises i b = grind (arith, taken.off, taken.others i, low.least i)
-
-  left : (i : ℕ) → bit_at rest i ≡ 1 → (bit_at v i ≡ 1) ⊎ (i ≡ k)
-  left i b = grind (arith, taken.others i)
-
-  beaten : (best : Option Due) (r : Bool) (i a : ℕ) → Beats at best r → r ≡ true → IsSomeAnd best (λ d. NoLater d.key d.deadline i a) → NoLater k at i a
-  beaten None r i a m t h = absurd h
-  beaten (Some d) r i a m t h = grind (arith, nat_tests, h.0)
-
-  pub takes : (best : Option Due) (r : Bool) → k < 64 → SoFar w rest best dl → Beats at best r → r ≡ true → SoFar w v (Some (record { key = k; deadline = at })) dl
-  takes best r l h m won_it = record {
-    later = λ i b. let more = rises i b in ((h.later i more.0).0, more.1);
+  pub takes : (best : Option Due) → k < 64 → SoFar w rest best dl → MatchOption best (IsTrue r) Q → SoFar w v (Some (record { key = k; deadline = at })) dl
+  takes best l h m = record {
+    later = λ i b. grind (arith, taken.off, taken.others i, low.least i, h.later i);
     runs = grind (arith, nat_tests, (h.later k low.on).0);
-    won = λ i a e. ⊎_elim (λ (b : bit_at rest i ≡ 1). ⊎_elim inl (λ (f : i ≡ k). inr (grind (arith, nat_tests))) (left i b)) (λ (n : IsSomeAnd best (λ d. NoLater d.key d.deadline i a)). inr (beaten best r i a m won_it n)) (h.won i a e);
-  }
-
-  pub keeps : (best : Option Due) (r : Bool) → SoFar w rest best dl → Beats at best r → r ≡ false → SoFar w v best dl
-  keeps None r h m lost = grind arith
-  keeps (Some d) r h m lost = record {
-    later = λ i b. h.later i (rises i b).0;
-    runs = h.runs;
-    won = λ i a e. ⊎_elim (λ (b : bit_at rest i ≡ 1). ⊎_elim inl (λ (f : i ≡ k). inr (grind (arith, nat_tests, (h.later k low.on).1))) (left i b)) inr (h.won i a e);
+    won = λ i a e. grind (arith, nat_tests, h.won i a e, taken.others i, beaten best i a m);
   }
 
 pub first_found : (w : ℕ) (dl : List ℕ) (best : Option Due) → SoFar w 0 best dl → IsFirstDue (bitmap_meant w dl) best

@@ -1,11 +1,11 @@
 -- The first of a heap, and the heap after an entry is set or stopped.
-use Rattle.std.proofs.Common.{◌≡◌, ℕ, zero, suc, ◌+◌, ◌-◌, ◌*◌, ◌/◌, ◌<◌, ◌≤◌, ◌≢◌, eqb, List, get_or, set, Some, None, sym, ap, ◌∙◌, arith, rules}
+use Rattle.std.proofs.Common.{◌≡◌, ℕ, zero, suc, ◌+◌, ◌-◌, ◌/◌, ◌<◌, ◌≤◌, ◌≢◌, eqb, List, get_or, set, Some, None, sym, ap, ◌∙◌, arith, rules}
 use Rattle.std.specs.Map.{update}
 use Rattle.std.proofs.lemmas.Bool.Decides.{nat_tests}
 use Rattle.std.proofs.lemmas.List.{get_or-set_same, get_or-set_other}
 use Rattle.timers.specs.declared.heap.ranking.Heap.{Heap}
-use Rattle.timers.specs.Order.{NoLater, First}
-use Rattle.timers.specs.Heaps.{Loose, Ordered, rank, ranked, heap_meant, exch}
+use Rattle.timers.specs.Order.{First}
+use Rattle.timers.specs.Heaps.{Loose, Ordered, ranked, heap_meant, exch}
 use Rattle.timers.specs.HeapViews.{place_in, rank_in, deadlines_in, Reordered}
 
 -- ---- the first
@@ -15,24 +15,11 @@ root_least : (R : ℕ → ℕ) (n : ℕ) → Ordered R n → (m i : ℕ) → i �
 root_least R n h zero i u l = grind arith
 root_least R n h (suc m) i u l = grind (arith, root_least R n h m ((i - 1) / 2))
 
-by_rank : (j b k a : ℕ) → j < 64 → k < 64 → b * 64 + j ≤ a * 64 + k → NoLater j b k a
-by_rank j b k a p q l = (omega arith, λ e. omega arith)
-
-heap_some : (h : Heap) (k a : ℕ) → deadlines_in h k ≡ Some a → (k < 64) × (place_in h k < h.count) × (get_or h.deadlines k 0 ≡ a)
-heap_some h k a e = grind (arith, nat_tests)
-
 pub heap_first : (h : Heap) (key at : ℕ) → Ordered (rank_in h) h.count → 0 < h.count → key < 64 → key ≡ get_or h.links.keys 0 0 → at ≡ get_or h.deadlines key 0 → First (deadlines_in h) key at
 heap_first h key at order p low e d =
-    let there : place_in h key ≡ 0 = ap (place_in h) e ∙ h.links.linked.there 0 (omega arith) in (
-      grind (arith, nat_tests),
-      λ k a s.
-          let q = heap_some h k a s in
-          let i = place_in h k in
-          let r = root_least (rank_in h) h.count order i i (omega arith) q.1 in
-          let b : rank_in h i ≡ rank h.deadlines k = ap (rank h.deadlines) (h.links.linked.back k q.0) in
-          let f : rank h.deadlines key ≡ rank_in h 0 = ap (rank h.deadlines) e in
-          by_rank key at k a low q.0 (omega (arith, r, b, f, q.2, d)),
-    )
+    let there : place_in h key ≡ 0 = ap (place_in h) e ∙ h.links.linked.there 0 (omega arith) in
+    let least = root_least (rank_in h) h.count order in
+    (grind (arith, nat_tests), λ k a s. grind (arith, nat_tests, least (place_in h k) (place_in h k), h.links.linked.back k))
 
 -- ---- what is meant
 

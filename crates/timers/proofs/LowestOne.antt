@@ -1,5 +1,5 @@
 -- w & (w - 1) is w without its lowest 1.
-use Rattle.std.proofs.Common.{◌≡◌, ℕ, zero, suc, ◌-◌, ◌/◌, ◌%◌, ◌^◌, ◌<◌, ◌≢◌, sym, refl, ap, ◌∙◌, pow-suc, arith}
+use Rattle.std.proofs.Common.{◌≡◌, ℕ, zero, suc, ◌-◌, ◌/◌, ◌%◌, ◌^◌, ◌<◌, ◌≢◌, refl, ap, pow-suc, arith}
 use Rattle.std.specs.Int.{bit_at, w64}
 use Rattle.std.proofs.lemmas.Nat.Bits.{bit_at_lowest, bit_at-suc, bit_at-trailing_zeros}
 use lib.Bits.{bit_and, and_step, and_self}
@@ -18,9 +18,9 @@ clears_by w t (suc d) odd some half = record { off = omega (arith, bit_at_lowest
 
     others : (k : ℕ) → k ≢ 0 → bit_at (cleared w) k ≡ bit_at w k
     others zero n = absurd (n refl)
-    others (suc k) n = bit_at-suc (cleared w) k ∙ ap (λ x. bit_at x k) rest ∙ sym (bit_at-suc w k)
+    others (suc k) n = grind (arith, rest, bit_at-suc (cleared w) k, bit_at-suc w k)
 clears_by w t zero even some half =
-    record { off = bit_at-suc (cleared w) t ∙ ap (λ x. bit_at x t) rest ∙ h.off; others = others; ones_less = omega (arith, ones_step w, ones_step (cleared w), ap ones rest, h.ones_less, and_step w (w - 1)) }
+    record { off = grind (arith, rest, bit_at-suc (cleared w) t, h.off); others = others; ones_less = omega (arith, ones_step w, ones_step (cleared w), ap ones rest, h.ones_less, and_step w (w - 1)) }
   where
     h : Without (w / 2) t (cleared (w / 2))
     h = half (omega arith)
@@ -30,7 +30,7 @@ clears_by w t zero even some half =
 
     others : (k : ℕ) → k ≢ suc t → bit_at (cleared w) k ≡ bit_at w k
     others zero n = omega (arith, bit_at_lowest w, bit_at_lowest (cleared w), and_step w (w - 1))
-    others (suc k) n = bit_at-suc (cleared w) k ∙ ap (λ x. bit_at x k) rest ∙ h.others k (λ e. n (ap suc e)) ∙ sym (bit_at-suc w k)
+    others (suc k) n = grind (arith, rest, bit_at-suc (cleared w) k, bit_at-suc w k, h.others k)
 
 pub clears : (d w : ℕ) → 0 < w → w < 2 ^ d → Without w (count_trailing_zeros d w) (bit_and w (w - 1))
 unfolding count_trailing_zeros

@@ -1,12 +1,8 @@
 -- Two places exchanged.
-use Rattle.std.proofs.Common.{◌≡◌, ℕ, ◌<◌, ltb, List, length, get_or, arith, rules}
+use Rattle.std.proofs.Common.{◌≡◌, ℕ, ◌<◌, List, length, get_or, arith, rules}
 use Rattle.std.proofs.lemmas.Bool.Decides.{nat_tests}
 use Rattle.std.specs.List.{SwappedAt}
 use Rattle.timers.specs.Heaps.{Linked, exch}
-
-pub exch_kept : (i j n x : ℕ) → i < n → j < n → ltb (exch i j x) n ≡ ltb x n
-unfolding exch
-exch_kept i j n x a b = grind (arith, nat_tests)
 
 pub swapped_at : (xs ys : List ℕ) (i j : ℕ) → SwappedAt xs ys i j → (x : ℕ) → get_or ys x 0 ≡ get_or xs (exch i j x) 0
 unfolding exch
