@@ -22,7 +22,7 @@ pub enum Slot {
     Hold,
 }
 
-// What becomes of a running or a stopped timer.
+// What becomes of a running or a stopped timer. Three things, each with a name: an Option of two would call the first none.
 #[derive(Clone, Copy, PartialEq, Eq, Debug)]
 pub enum TimerChange {
     Kept,
@@ -30,7 +30,7 @@ pub enum TimerChange {
     Set(Timer),
 }
 
-// At most two of a kind, in their order.
+// At most two of a kind, in their order. No `ArrayVec`, since this is copied like its parts, and no third can be written.
 #[derive(Clone, Copy, PartialEq, Eq, Debug)]
 pub enum UpToTwo<T> {
     Zero,

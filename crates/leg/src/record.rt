@@ -84,7 +84,8 @@ pub enum HoldKind {
     Remote,
 }
 
-// A peer that does not apply is 0. A leg is held where its far end put this end on hold.
+// A peer that does not apply is 0, as the host is shown it: an Option would be turned into that number wherever it is read.
+// A leg is held where its far end put this end on hold.
 #[derive(Clone, Copy, PartialEq, Eq, Debug)]
 pub struct Leg {
     pub phase: Phase,

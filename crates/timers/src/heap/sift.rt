@@ -6,7 +6,7 @@ ghost use Rattle.timers.specs.HeapViews.{rank_in, Settled};
 use super::ranking::Heap;
 
 impl Heap {
-    // Moves a key up until its parent comes no later.
+    // Moves a key up until its parent comes no later. No iterator: the way goes on only from where the last exchange led.
     fn sift_up(&mut self, from: usize)
         requires from { from < self.old.count }
         requires rising { Rising (rank_in self.old) self.old.count from }
@@ -40,7 +40,7 @@ impl Heap {
         left
     }
 
-    // Moves a key down until its children come no earlier.
+    // Moves a key down until its children come no earlier. No iterator here either.
     fn sift_down(&mut self, from: usize)
         requires from { from < self.old.count }
         requires sinking { Sinking (rank_in self.old) self.old.count from }
