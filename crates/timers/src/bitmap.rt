@@ -10,7 +10,8 @@ use crate::key::Key;
 use crate::meaning::{Due, NoSuchKey, Timers};
 use running::RunningKeys;
 
-// One bit for each key in a word, and one deadline for each: the word beside the table is what this set of timers is.
+// One bit for each key in a word, and one deadline for each.
+// The word beside the table is this set's subject: its ones alone say which keys run, and `first` goes from one to the next.
 #[derive(Clone, Copy)]
 pub struct BitmapTimers {
     running: u64,

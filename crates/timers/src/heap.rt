@@ -14,7 +14,8 @@ use crate::meaning::{Due, NoSuchKey, Timers};
 use links::Links;
 use ranking::Heap;
 
-// A binary heap of keys by deadline and key, with each key's place in it, in order whenever no method is at work on it.
+// A binary heap of keys by deadline and key, with each key's place in it.
+// The type keeps it in order, and a method that breaks the order restores it.
 #[derive(Clone, Copy)]
 pub struct HeapTimers {
     heap: Heap,

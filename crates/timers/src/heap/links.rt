@@ -6,7 +6,7 @@ use crate::key::Key;
 use std::array;
 
 // Each key stands in one place and knows it: `swap` alone writes the two arrays, which are each other's inverse.
-// A place is a plain index, since it is halved and doubled on each step up or down: a type of places would be taken apart there.
+// A place is a plain index: a type of places would be taken apart at each step, where a place is halved or doubled.
 #[derive(Clone, Copy)]
 pub struct Links {
     keys: [u8; 64],

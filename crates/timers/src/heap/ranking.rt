@@ -5,7 +5,7 @@ use super::links::Links;
 use crate::key::Key;
 
 // The running keys stand in the places below `count`, and the others in those from there on.
-// The deadlines stand by key, apart from the links: a key moves with no write to them, and stays where one changes.
+// The deadlines stand by key, apart from the links, since a key moves with no write to its deadline.
 #[derive(Clone, Copy)]
 pub struct Heap {
     pub links: Links,
@@ -27,8 +27,8 @@ impl Heap {
         self.deadlines[key.index]
     }
 
-    // Gives a key a deadline and leaves it in its place. `HeapTimers` calls this, since its own write into the table would
-    // have to keep the order at once.
+    // Gives a key a deadline and leaves it in its place.
+    // A method, since a write into the table from `HeapTimers` has to keep the order at once.
     pub fn write(&mut self, key: Key, deadline: u64)
         ensures links { self.new.links ≡ self.old.links }
         ensures deadlines { self.new.deadlines ≡ slice_set self.old.deadlines key.index deadline }
