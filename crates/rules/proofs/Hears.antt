@@ -29,7 +29,6 @@ use Rattle.leg.specs.declared.record.HoldKind.TheVariants as hold
 use Rattle.leg.specs.declared.record.Leg.{Leg}
 use Rattle.leg.specs.declared.reaction.TimerChange.TheVariants as change
 use Rattle.leg.specs.declared.reaction.UpToTwo.TheVariants as few
-use Rattle.leg.specs.declared.reaction.Tell.{Tell}
 use Rattle.leg.specs.Tells.{tell_leg}
 use Rattle.leg.specs.declared.reaction.Word.{Word}
 use Rattle.leg.specs.declared.reaction.Word.TheVariants as word
@@ -38,11 +37,11 @@ use Rattle.leg.specs.declared.reaction.Reaction.{Reaction}
 use Rattle.leg.specs.Views.{free_leg, holds_none, in_use, is_active, is_alerting, is_idle, is_awaiting_setup, is_held_near, is_held_remote, is_unheld, with_phase, with_holder, when_hold_requested, active_leg}
 use Rattle.machine.specs.Messages.{result_on, error_on}
 use Rattle.machine.specs.Reactions.{reaction, acting, strayed, settling, hold_settling}
-use Rattle.rules.specs.Sound.{end_follows, InWord, InIdentity, leg, Sound, free, calling, ringing, alerting, active, idle, setup, asked, bound, SoundBond, holds, Tie, transfer_tie, tie_of, Tells, keeps, meets, hands, parts, completes, loses, LawfulIf}
+use Rattle.rules.specs.Sound.{end_follows, InWord, InIdentity, leg, Sound, free, calling, ringing, alerting, active, idle, setup, asked, bound, SoundBond, holds, Tie, transfer_tie, tie_of, keeps, meets, hands, parts, completes, loses}
 use Rattle.rules.specs.Events.{Fine, FineIf}
 use Rattle.rules.proofs.Sends.{release_lawful, result_lawful, identity_lawful, error_lawful}
 use Rattle.rules.proofs.Cases.{by_test, by_identify, by_initiate, by_response, by_hold, by_retrieve}
-use Rattle.rules.proofs.Shapes.{with_transfer_lem, with_holder_again, with_held_idle, acting_fine, strayed_fine, idle_tie, leaving_fine, lost_fine, part_tells, abandon_tells, part_few, tied, unawaited_fine, held_here_lem, waiting_active}
+use Rattle.rules.proofs.Shapes.{with_transfer_lem, fine, with_holder_again, with_held_idle, acting_fine, strayed_fine, idle_tie, leaving_fine, lost_fine, part_tells, abandon_tells, part_few, tied, unawaited_fine, held_here_lem, waiting_active}
 use Rattle.machine.specs.Invokes.{failed, owed_for, invoked, set_up}
 use Rattle.machine.specs.Replies.{resulted, faulted, connected_leg, setup_result, alerted, connected, lost, released, served, heard_on}
 
@@ -82,12 +81,7 @@ module _ {Other : Place → Word → Bool} {at : Place} where
   pub invoked_fine : (l : Leg) (own : ℕ) (o : Operation) (m : Message) → Sound l → InWord own → Told m kind.Invoke o → Fine Other at l (invoked l at own o m)
   invoked_fine l own operation.CallTransferIdentify m S W M =
       by_test (Fine Other at l) (is_active l && is_idle l) _ _
-      (λ e. record {
-        sound = with_transfer_lem S (and_parts _ _ e).0 setup;
-        lawful = identity_lawful at M.number W;
-        tells = rw (idle_tie l (and_parts (is_active l) (is_idle l) e).1) (keeps None);
-        few = λ _. refl;
-      })
+      (λ e. fine (with_transfer_lem S (and_parts _ _ e).0 setup) (identity_lawful at M.number W) (rw (idle_tie l (and_parts (is_active l) (is_idle l) e).1) (keeps None)) refl)
       (λ _. failed_fine S (error_lawful at refl M.number refl refl))
   invoked_fine l own operation.CallTransferAbandon m S W M = by_test (Fine Other at l) (is_awaiting_setup l) _ _ (λ e. unawaited_fine note.Done S e) (λ _. strayed_fine S)
   invoked_fine l own operation.CallTransferInitiate m S W M =
@@ -110,12 +104,9 @@ module _ {Other : Place → Word → Bool} {at : Place} where
 
   -- ---- replies
 
-  settling_fine : {l k : Leg} {m : Option Message} {n : ℕ} {c : Cause} {w : Option Tell} → Sound k → LawfulIf m → Tells Other at (tie_of l) w (tie_of k) → Fine Other at l (settling k m n c w)
-  settling_fine S L T = record { sound = S; lawful = L; tells = T; few = λ _. refl }
-
   -- a hold request that ends leaves another holder state
   hold_settling_fine : {l : Leg} {n : ℕ} {c : Cause} (h : Holder) → Sound l → holds_none l ≡ false → Fine Other at l (hold_settling (with_holder l h) n c)
-  hold_settling_fine h S e = record { sound = with_holder_again h S e; lawful = tt; tells = keeps _; few = λ _. refl }
+  hold_settling_fine h S e = fine (with_holder_again h S e) tt (keeps _) refl
 
   hold_reply_fine : (l : Leg) (m : Message) (h : Holder) (c : Cause) → Sound l
       → Fine Other at l (when_hold_requested l.holder (λ n. cond (eqb n m.number) (hold_settling (with_holder l h) n c) (strayed l)) (strayed l))
@@ -124,8 +115,8 @@ module _ {Other : Place → Word → Bool} {at : Place} where
   pub resulted_fine : (l : Leg) (o : Operation) (m : Message) → Sound l → Told m kind.Result o → Fine Other at l (resulted l at o m)
   resulted_fine l operation.CallTransferIdentify m S M =
       by_identify (Fine Other at l) l.transfer m.number _ _
-      (λ n p e. settling_fine (with_transfer_lem S (waiting_active S e refl) (bound (bond.Consulted p) (SoundBond.consulted p))) tt
-      (tied e (hands p m.identity m.address (identity_any m.identity M.identity) M.address)))
+      (λ n p e. fine (with_transfer_lem S (waiting_active S e refl) (bound (bond.Consulted p) (SoundBond.consulted p))) tt
+      (tied e (hands p m.identity m.address (identity_any m.identity M.identity) M.address)) refl)
       (strayed_fine S)
   resulted_fine l operation.CallTransferInitiate m S M =
       by_initiate (Fine Other at l) l.transfer m.number _ _
@@ -139,11 +130,11 @@ module _ {Other : Place → Word → Bool} {at : Place} where
   pub faulted_fine : (l : Leg) (o : Operation) (m : Message) → Sound l → Fine Other at l (faulted l at o m)
   faulted_fine l operation.CallTransferIdentify m S =
       by_identify (Fine Other at l) l.transfer m.number _ _
-      (λ n p e. settling_fine (with_transfer_lem S (waiting_active S e refl) idle) tt (tied e (parts p)))
+      (λ n p e. fine (with_transfer_lem S (waiting_active S e refl) idle) tt (tied e (parts p)) refl)
       (strayed_fine S)
   faulted_fine l operation.CallTransferInitiate m S =
       by_initiate (Fine Other at l) l.transfer m.number _ _
-      (λ n s e. settling_fine (with_transfer_lem S (waiting_active S e refl) idle) tt (tied e (abandon_tells s)))
+      (λ n s e. fine (with_transfer_lem S (waiting_active S e refl) idle) tt (tied e (abandon_tells s)) refl)
       (strayed_fine S)
   faulted_fine l operation.RemoteHold m S = hold_reply_fine l m holder.Idle cause.Fault S
   faulted_fine l operation.RemoteRetrieve m S =
@@ -151,7 +142,7 @@ module _ {Other : Place → Word → Bool} {at : Place} where
   faulted_fine l _ m S = strayed_fine S
 
   answered : {l : Leg} (p : Phase) → Sound l → GoesOn p → (n : ℕ) (q : Place) → l.transfer ≡ transfer.AwaitSetupResponse n q → Fine Other at l (settling (connected_leg l p) None n cause.Result (tell_leg q word.Complete))
-  answered p (calling x k r X) G n q e = settling_fine (goes_on x p X G) tt (tied e (completes q))
+  answered p (calling x k r X) G n q e = fine (goes_on x p X G) tt (tied e (completes q)) refl
   answered p (active x _ h d X idle H) G n q e = cc
   answered p _ G n q e = cc
 
@@ -223,12 +214,7 @@ module _ {Other : Place → Word → Bool} {at : Place} where
       ])
   met_fine m None M X = acting_fine free (error_lawful at refl M.number refl refl) refl
   met_fine m (Some q) M X =
-      record {
-        sound = active _ _ _ _ M.address idle (holds holder.Idle);
-        lawful = result_lawful at refl M.number refl refl;
-        tells = meets q (X q refl);
-        few = λ _. refl;
-      }
+      fine (active _ _ _ _ M.address idle (holds holder.Idle)) (result_lawful at refl M.number refl refl) (meets q (X q refl)) refl
 
 pub set_up_fine : (Other : Place → Word → Bool) (at : Place) {l : Leg} (m : Message) (s : Option Place) → Sound l → m.carrier ≡ carrier.Setup → Lawful m
     → (in_use l ≡ false → (q : Place) → s ≡ Some q → (Other q word.Met ≡ true)) → FineIf Other at l (set_up l at m s)

@@ -16,9 +16,10 @@ use Rattle.leg.specs.declared.reaction.Word.{Word}
 use Rattle.leg.specs.declared.reaction.Word.TheVariants as word
 use Rattle.leg.specs.declared.reaction.Slot.{Slot}
 use Rattle.leg.specs.declared.reaction.Slot.TheVariants as slot
+use Rattle.leg.specs.declared.reaction.Reaction.{Reaction}
 use Rattle.leg.specs.declared.reaction.Named.{Named}
 use Rattle.leg.specs.declared.codes.Note.{Note}
-use Rattle.leg.specs.Views.{when_idle, when_await_setup_response, is_awaiting_setup, is_unheld, is_active, is_idle, holds_none, is_held_not, with_transfer, with_holder, with_held, partner_of}
+use Rattle.leg.specs.Views.{when_idle, when_await_setup_response, is_awaiting_setup, is_unheld, is_active, is_idle, holds_none, with_transfer, with_holder, with_held, partner_of}
 use Rattle.machine.specs.Reactions.{last_ends, unawaited, tell_to, acting, strayed, leaving, tell_lost}
 use Rattle.machine.specs.Timeouts.{expired}
 use Rattle.rules.specs.Sound.{end_follows, is_two, leg, transfer_tie, secondary_tie, releases, abandons, Sound, free, active, SoundTransfer, idle, setup, holds, is_held, Tie, tie_of, Tells, keeps, loses, LawfulIf}
@@ -35,11 +36,6 @@ waits t = when_idle t false (when_await_setup_response t (λ _ _. false) true)
 -- a leg that waits for a transfer is active, unless it calls
 pub waiting_active : {l : Leg} {t : Transfer} → Sound l → l.transfer ≡ t → waits t ≡ true → is_active l ≡ true
 waiting_active S e w = grind arith
-
--- one that is not held may hold
-pub with_holder_lem : {l : Leg} (h : Holder) → Sound l → is_active l ≡ true → is_held_not l ≡ true → Sound (with_holder l h)
-with_holder_lem h (active q t _ None Q T H) e f = active q t h None Q T (holds h)
-with_holder_lem h _ e f = cc
 
 -- one that does not hold may be held
 pub with_held_lem : {l : Leg} (d : Option HoldKind) → Sound l → is_active l ≡ true → holds_none l ≡ true → Sound (with_held l d)
@@ -73,8 +69,12 @@ part_few t s = grind arith
 -- ---- the shapes of reactions
 
 module _ {Other : Place → Word → Bool} {at : Place} where
+  -- a reaction that names one end at most
+  pub fine : {l : Leg} {r : Reaction} → Sound r.leg → LawfulIf r.sent → Tells Other at (tie_of l) r.tell (tie_of r.leg) → is_two r.ends ≡ false → Fine Other at l r
+  fine S L T e = record { sound = S; lawful = L; tells = T; few = λ _. e }
+
   pub acting_fine : {l k : Leg} {m : Option Message} {n : Note} → Sound k → LawfulIf m → tie_of k ≡ tie_of l → Fine Other at l (acting k m n)
-  acting_fine S L e = record { sound = S; lawful = L; tells = rw e (keeps _); few = λ _. refl }
+  acting_fine S L e = fine S L (rw e (keeps _)) refl
 
   pub strayed_fine : {l : Leg} → Sound l → Fine Other at l (strayed l)
   strayed_fine S = acting_fine S tt refl
@@ -109,9 +109,9 @@ module _ {Other : Place → Word → Bool} {at : Place} where
   abandon_tells (Some s) = abandons s
 
   pub expired_fine : {l : Leg} (k : Slot) → Sound l → Fine Other at l (expired l k)
-  expired_fine slot.Transfer S = record { sound = S; lawful = tt; tells = keeps _; few = λ _. refl }
-  expired_fine _ S = record { sound = S; lawful = tt; tells = keeps _; few = λ _. refl }
+  expired_fine slot.Transfer S = fine S tt (keeps _) refl
+  expired_fine _ S = fine S tt (keeps _) refl
 
   pub unawaited_fine : {l : Leg} (n : Note) → Sound l → is_awaiting_setup l ≡ true → Fine Other at l (unawaited l n)
-  unawaited_fine n (active q _ h d Q setup H) e = record { sound = active q _ h d Q idle H; lawful = tt; tells = keeps None; few = λ _. refl }
+  unawaited_fine n (active q _ h d Q setup H) e = fine (active q _ h d Q idle H) tt (keeps None) refl
   unawaited_fine n _ e = cc
