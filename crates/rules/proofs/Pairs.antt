@@ -20,14 +20,14 @@ use Rattle.leg.specs.declared.reaction.UpToTwo.{UpToTwo}
 use Rattle.leg.specs.declared.reaction.UpToTwo.TheVariants as few
 use Rattle.leg.specs.declared.reaction.Word.{Word}
 use Rattle.leg.specs.declared.reaction.Word.TheVariants as word
-use Rattle.leg.specs.Views.{when_await_setup, is_active, is_idle, is_awaiting_setup, when_asked, when_bound, with_transfer, hold_request, transfer_request}
+use Rattle.leg.specs.Views.{when_idle, when_await_setup_response, when_await_setup, is_active, is_idle, is_awaiting_setup, when_asked, when_bound, with_transfer, hold_request, transfer_request}
 use Rattle.leg.specs.Reactions.{up_to_two}
 use Rattle.machine.specs.Reactions.{settling, leaving, last_ends, request_end}
 use Rattle.machine.specs.Messages.{notice_on, release_on}
 use Rattle.machine.specs.Told.{parting, bond_sends, unmoved, bond_initiates, bond_completes, told_word}
 use Rattle.rules.specs.Sound.{leg, tie_ends, InWord, InIdentity, Sound, Tie, identifies, initiates, sets_up, tie_of, transfer_tie, tied_to, returned, Tells, keeps, consults, places, meets, hands, parts, releases, abandons, completes, loses, end_follows, is_two, LawfulIf}
 use Rattle.rules.specs.Events.{Fine, FineIf, FineTold, FineToldIf, ReadyFor}
-use Rattle.rules.proofs.Shapes.{waiting_active, waits, idle_tie}
+use Rattle.rules.proofs.Shapes.{idle_tie}
 use Rattle.rules.proofs.Tolds.{told_stays_sound, parting_fine, abandon_lawful}
 use Rattle.rules.specs.declared.plan.Told.{Told}
 use Rattle.rules.specs.declared.plan.Plan.{Plan}
@@ -136,6 +136,14 @@ calling_few l S n p e = grind arith
 lost_few : (l : Leg) (q : Place) (u : Transfer) (t : Tie) → Sound l → l.transfer ≡ u → Makes t u → is_two (lost_in l q u).ends ≡ false
 lost_few l q _ _ S e (response n p) = calling_few l S n p e
 lost_few l q _ _ S e _ = refl
+
+-- something is awaited of the leg or of its far end, other than the answer to a set-up
+abbrev waits : Transfer → Bool
+waits t = when_idle t false (when_await_setup_response t (λ _ _. false) true)
+
+-- a leg that waits for a transfer is active, unless it calls
+waiting_active : {l : Leg} {t : Transfer} → Sound l → l.transfer ≡ t → waits t ≡ true → is_active l ≡ true
+waiting_active S e w = grind arith
 
 -- the ties of a leg that waits
 abbrev tie_waits : Tie → Bool

@@ -19,7 +19,7 @@ use Rattle.rules.specs.Sound.{InWord, NextInRange, OwedInRange, Sound, free, cal
 use Rattle.rules.specs.Events.{Fine, FineIf}
 use Rattle.rules.proofs.Sends.{release_lawful, notice_lawful, request_lawful, result_lawful, error_lawful}
 use Rattle.rules.proofs.Cases.{by_test}
-use Rattle.rules.proofs.Shapes.{with_transfer_lem, fine, acting_fine, idle_tie, leaving_fine, lost_fine, abandon_tells, expired_fine}
+use Rattle.rules.proofs.Shapes.{fine, acting_fine, leaving_fine, lost_fine, abandon_tells, expired_fine}
 use Rattle.machine.specs.Timeouts.{transfer_timed_out, hold_timed_out, timed_out}
 
 module _ (Other : Place → Word → Bool) (at : Place) where
@@ -40,9 +40,9 @@ module _ (Other : Place → Word → Bool) (at : Place) where
   transferring_fine a next _ A N = tt
 
   pub identifying_fine : {l : Leg} (p : Place) (next : Option ℕ) → Sound l → is_active l ≡ true → is_idle l ≡ true → (Other p (word.Consult at) ≡ true) → NextInRange next → FineIf Other at l (identifying l at p next)
-  identifying_fine {l = l} p next S e f X N =
-      numbered_fine l next _ N
-      (λ n M. fine (with_transfer_lem S e (identify n p)) (request_lawful at refl M refl refl) (rw (idle_tie l f) (consults p X)) refl)
+  identifying_fine p next (active q _ h d Q idle H) e f X N =
+      numbered_fine _ next _ N (λ n M. fine (active q _ h d Q (identify n p) H) (request_lawful at refl M refl refl) (consults p X) refl)
+  identifying_fine p next _ e f X N = cc
 
   pub placing_fine : {l : Leg} (p : Place) (o : Owed) (own : ℕ) (next : Option ℕ) → Sound l → in_use l ≡ false → OwedInRange o → (Other p (word.Place at) ≡ true) → InWord own → NextInRange next → FineIf Other at l (placing at p o own next)
   placing_fine p o own next free e O X W N =

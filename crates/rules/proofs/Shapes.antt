@@ -1,6 +1,5 @@
 -- A record that occurs, with one field changed, occurs.
-use Rattle.std.proofs.Common.{◌≡◌, Bool, true, false, ◌&&◌, Some, None, Option, refl, arith}
-use Rattle.std.proofs.lemmas.Bool.{and_parts}
+use Rattle.std.proofs.Common.{◌≡◌, Bool, true, false, Some, None, Option, refl, arith}
 use Rattle.message.specs.declared.record.Message.{Message}
 use Rattle.leg.specs.declared.place.Place.{Place}
 use Rattle.leg.specs.declared.record.Phase.TheVariants as phase
@@ -9,7 +8,6 @@ use Rattle.leg.specs.declared.record.Transfer.{Transfer}
 use Rattle.leg.specs.declared.record.Transfer.TheVariants as transfer
 use Rattle.leg.specs.declared.record.Holder.{Holder}
 use Rattle.leg.specs.declared.record.Holder.TheVariants as holder
-use Rattle.leg.specs.declared.record.HoldKind.{HoldKind}
 use Rattle.leg.specs.declared.record.Leg.{Leg}
 use Rattle.leg.specs.declared.reaction.Tell.{Tell}
 use Rattle.leg.specs.declared.reaction.Word.{Word}
@@ -19,41 +17,15 @@ use Rattle.leg.specs.declared.reaction.Slot.TheVariants as slot
 use Rattle.leg.specs.declared.reaction.Reaction.{Reaction}
 use Rattle.leg.specs.declared.reaction.Named.{Named}
 use Rattle.leg.specs.declared.codes.Note.{Note}
-use Rattle.leg.specs.Views.{when_idle, when_await_setup_response, is_awaiting_setup, is_unheld, is_active, is_idle, holds_none, with_transfer, with_holder, with_held, partner_of}
-use Rattle.machine.specs.Reactions.{last_ends, unawaited, tell_to, acting, strayed, leaving, tell_lost}
+use Rattle.leg.specs.Views.{is_active, is_idle, with_transfer, partner_of}
+use Rattle.machine.specs.Reactions.{last_ends, tell_to, acting, strayed, leaving, tell_lost}
 use Rattle.machine.specs.Timeouts.{expired}
-use Rattle.rules.specs.Sound.{end_follows, is_two, leg, transfer_tie, secondary_tie, releases, abandons, Sound, free, active, SoundTransfer, idle, setup, holds, is_held, Tie, tie_of, Tells, keeps, loses, LawfulIf}
+use Rattle.rules.specs.Sound.{end_follows, is_two, leg, transfer_tie, secondary_tie, releases, abandons, Sound, free, active, SoundTransfer, Tie, tie_of, Tells, keeps, loses, LawfulIf}
 use Rattle.rules.specs.Events.{Fine}
 
 pub with_transfer_lem : {l : Leg} {t : Transfer} → Sound l → is_active l ≡ true → SoundTransfer t → Sound (with_transfer l t)
 with_transfer_lem (active q u h d Q U H) e T = active q _ h d Q T H
 with_transfer_lem _ e T = cc
-
--- something is awaited of the leg or of its far end, other than the answer to a set-up
-abbrev pub waits : Transfer → Bool
-waits t = when_idle t false (when_await_setup_response t (λ _ _. false) true)
-
--- a leg that waits for a transfer is active, unless it calls
-pub waiting_active : {l : Leg} {t : Transfer} → Sound l → l.transfer ≡ t → waits t ≡ true → is_active l ≡ true
-waiting_active S e w = grind arith
-
--- one that does not hold may be held
-pub with_held_lem : {l : Leg} (d : Option HoldKind) → Sound l → is_active l ≡ true → holds_none l ≡ true → Sound (with_held l d)
-with_held_lem d (active q t holder.Idle _ Q T H) e f = active q t holder.Idle d Q T (is_held d)
-with_held_lem d _ e f = cc
-
--- one that holds may hold otherwise, or not any more
-pub with_holder_again : {l : Leg} (h : Holder) → Sound l → holds_none l ≡ false → Sound (with_holder l h)
-with_holder_again h (active q t _ _ Q T (holds x)) e = active q t h None Q T (holds h)
-with_holder_again h _ e = cc
-
--- one that is held may be fetched back
-pub with_held_idle : {l : Leg} → Sound l → Sound (with_held l None)
-with_held_idle (active q t h _ Q T H) = active q t h None Q T (holds h)
-with_held_idle S = S
-
-pub held_here_lem : {l : Leg} (d : Option HoldKind) → Sound l → (is_active l && is_unheld l) ≡ true → Sound (with_held l d)
-held_here_lem d S e = with_held_lem d S (and_parts _ _ e).0 (and_parts _ _ (and_parts _ _ e).1).0
 
 pub idle_tie : (l : Leg) → is_idle l ≡ true → tie_of l ≡ None
 idle_tie l e = grind arith
@@ -78,10 +50,6 @@ module _ {Other : Place → Word → Bool} {at : Place} where
 
   pub strayed_fine : {l : Leg} → Sound l → Fine Other at l (strayed l)
   strayed_fine S = acting_fine S tt refl
-
-  -- what is told fits the tie, the transfer state being known
-  pub tied : {t u : Transfer} {w : Option Tell} {k : Option Tie} → t ≡ u → Tells Other at (transfer_tie u) w k → Tells Other at (transfer_tie t) w k
-  tied e T = rw (e, transfer_tie) T
 
   -- the partner of a leg that ends is told so
   lost_tells : (t : Transfer) → Tells Other at (transfer_tie t) (tell_to (partner_of (leg phase.Free 0 t holder.Idle None)) word.Lost) None
@@ -111,7 +79,3 @@ module _ {Other : Place → Word → Bool} {at : Place} where
   pub expired_fine : {l : Leg} (k : Slot) → Sound l → Fine Other at l (expired l k)
   expired_fine slot.Transfer S = fine S tt (keeps _) refl
   expired_fine _ S = fine S tt (keeps _) refl
-
-  pub unawaited_fine : {l : Leg} (n : Note) → Sound l → is_awaiting_setup l ≡ true → Fine Other at l (unawaited l n)
-  unawaited_fine n (active q _ h d Q setup H) e = fine (active q _ h d Q idle H) tt (keeps None) refl
-  unawaited_fine n _ e = cc
