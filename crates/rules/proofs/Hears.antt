@@ -51,15 +51,6 @@ pub record Told (m : Message) (k : Kind) (o : Operation) : Type 0 where
 identity_any : (i : ℕ) → inside (span 1 9999) i ≡ true → InIdentity i
 identity_any i e = grind (arith, nat_tests)
 
--- a phase in which a placed leg goes on
-pub data GoesOn : Phase → Type 0 where
-  alerts : GoesOn phase.Alerting
-  connects : GoesOn phase.Active
-
-goes_on : (q : ℕ) (p : Phase) → InWord q → GoesOn p → Sound (leg p q transfer.Idle holder.Idle None)
-goes_on q _ Q alerts = alerting q Q
-goes_on q _ Q connects = active q _ _ _ Q idle (holds holder.Idle)
-
 -- the numbers of a lawful message, its operation being known
 told_by : (m : Message) (o : Operation) → m.operation ≡ Some o → Lawful m → Told m m.kind o
 told_by m o e L = record { number = rw e at L.number; identity = rw e at L.identity; address = rw e at L.address }
@@ -123,8 +114,9 @@ module _ {Other : Place → Word → Bool} {at : Place} where
       either_fine _ _ _ (lost_fine (named.Hold cause.Fault) (release_lawful at)) (strayed_fine (active q t _ None Q T (holds _)))
   faulted_fine _ m S = strayed_fine S
 
-  setup_result_fine : {l : Leg} {x : Reaction} (m : Message) (p : Phase) → Sound l → GoesOn p → Fine Other at l x → Fine Other at l (setup_result l m p x)
-  setup_result_fine m p (calling q n t Q) G F = either_fine _ _ _ (either_fine _ _ _ (fine (goes_on q p Q G) tt (completes t) refl) F) F
+  -- a placed leg goes on in the phase p
+  setup_result_fine : {l : Leg} {x : Reaction} (m : Message) (p : Phase) → Sound l → ((q : ℕ) → InWord q → Sound (leg p q transfer.Idle holder.Idle None)) → Fine Other at l x → Fine Other at l (setup_result l m p x)
+  setup_result_fine m p (calling q n t Q) G F = either_fine _ _ _ (either_fine _ _ _ (fine (G q Q) tt (completes t) refl) F) F
   setup_result_fine m p (active q _ h d Q idle H) G F = either_fine _ _ _ F F
   setup_result_fine m p _ G F = either_fine _ _ _ F F
 
@@ -168,8 +160,8 @@ module _ {Other : Place → Word → Bool} {at : Place} where
         | carrier.ReleaseComplete ↦ released l m
       ])
   carried_fine own m carrier.Setup S W L = strayed_fine S
-  carried_fine own m carrier.Alerting S W L = setup_result_fine m phase.Alerting S alerts (strayed_fine S)
-  carried_fine own m carrier.Connect S W L = setup_result_fine m phase.Active S connects (picked_up S)
+  carried_fine own m carrier.Alerting S W L = setup_result_fine m phase.Alerting S alerting (strayed_fine S)
+  carried_fine own m carrier.Connect S W L = setup_result_fine m phase.Active S (λ q Q. active q _ _ _ Q idle (holds _)) (picked_up S)
   carried_fine own m carrier.Facility S W L = facility_fine own m m.operation refl S W L
   carried_fine own m carrier.ReleaseComplete S W L = released_fine m S
 

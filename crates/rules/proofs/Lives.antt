@@ -169,13 +169,16 @@ module _ (s : State) (why : Refusal) where
   settled_unchanged t (Ok x) e = grind arith
 
   tick_unchanged : (t : ℕ) (o : Option Due) → Unchanged (elim o [ None ↦ (did note.NoneDue few.Zero few.Zero, at_time s t) | Some d ↦ settled s t (timeout_plan s d) ])
-  tick_unchanged t o e = grind (arith, settled_unchanged)
+  tick_unchanged t None e = cc
+  tick_unchanged t (Some d) e = settled_unchanged t (timeout_plan s d) e
 
   take_unchanged : (w : List Message) → Unchanged (elim w [ [] ↦ (did note.QueueEmpty few.Zero few.Zero, s) | m ∷ ms ↦ (taken m, with_waiting s ms) ])
-  take_unchanged w e = grind arith
+  take_unchanged [] e = refl
+  take_unchanged _ e = cc
 
   look_unchanged : (o : Option Place) → Unchanged (elim o [ None ↦ (Err refusal.NoSuchLeg, s) | Some p ↦ (shown (leg_at s p), s) ])
-  look_unchanged o e = grind arith
+  look_unchanged None e = refl
+  look_unchanged _ e = refl
 
   step_unchanged : (c : Call) → Unchanged (step s c)
   step_unchanged (call.Tick t) = by_test Unchanged (leb s.time t && leb t (2 ^ 40)) _ _ (λ _. tick_unchanged t (due_by t s.deadlines)) (λ _ _. refl)

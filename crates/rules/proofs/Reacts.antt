@@ -17,7 +17,7 @@ use Rattle.leg.specs.Views.{in_use, is_active, is_idle}
 use Rattle.machine.specs.Calls.{numbered, opening, clearing, transferring, identifying, placing, accepting, declining, holding, retrieving}
 use Rattle.rules.specs.Sound.{InWord, NextInRange, OwedInRange, Sound, free, calling, ringing, active, idle, identify, initiate, setup, asked, holds, Tie, keeps, consults, places, parts, loses}
 use Rattle.rules.specs.Events.{Fine, FineIf}
-use Rattle.rules.proofs.Sends.{release_lawful, notice_lawful, request_lawful, result_lawful, error_lawful}
+use Rattle.rules.proofs.Sends.{release_lawful, request_lawful, result_lawful, error_lawful}
 use Rattle.rules.proofs.Cases.{by_test}
 use Rattle.rules.proofs.Shapes.{fine, acting_fine, leaving_fine, lost_fine, abandon_tells, expired_fine}
 use Rattle.machine.specs.Timeouts.{transfer_timed_out, hold_timed_out, timed_out}
@@ -60,13 +60,13 @@ module _ (Other : Place → Word → Bool) (at : Place) where
   declining_fine _ = tt
 
   pub holding_fine : {l : Leg} (k : HoldKind) (next : Option ℕ) → Sound l → NextInRange next → FineIf Other at l (holding l at k next)
-  holding_fine hold.Near next (active q t holder.Idle None Q T H) N = acting_fine (active q t holder.NearHolding None Q T (holds _)) (notice_lawful at refl refl refl refl) refl
+  holding_fine hold.Near next (active q t holder.Idle None Q T H) N = acting_fine (active q t holder.NearHolding None Q T (holds _)) (request_lawful at refl refl refl refl) refl
   holding_fine hold.Remote next (active q t holder.Idle None Q T H) N =
       numbered_fine _ next _ N (λ n M. fine (active q t _ None Q T (holds (holder.RemoteRequested n))) (request_lawful at refl M refl refl) (keeps _) refl)
   holding_fine k next _ N = tt
 
   pub retrieving_fine : {l : Leg} (next : Option ℕ) → Sound l → NextInRange next → FineIf Other at l (retrieving l at next)
-  retrieving_fine next (active q t _ _ Q T (holds holder.NearHolding)) N = acting_fine (active q t holder.Idle None Q T (holds _)) (notice_lawful at refl refl refl refl) refl
+  retrieving_fine next (active q t _ _ Q T (holds holder.NearHolding)) N = acting_fine (active q t holder.Idle None Q T (holds _)) (request_lawful at refl refl refl refl) refl
   retrieving_fine next (active q t _ _ Q T (holds holder.RemoteHolding)) N =
       numbered_fine _ next _ N
       (λ n M. fine (active q t _ None Q T (holds (holder.RetrieveRequested n))) (request_lawful at refl M refl refl) (keeps _) refl)
@@ -75,7 +75,7 @@ module _ (Other : Place → Word → Bool) (at : Place) where
   pub transfer_timed_out_fine : {l : Leg} → Sound l → Fine Other at l (transfer_timed_out l at)
   transfer_timed_out_fine (calling q n p Q) = leaving_fine (named.Transfer cause.Timeout) (release_lawful at) (loses (Tie.sets_up p)) refl
   transfer_timed_out_fine (active q _ h d Q (identify n p) H) =
-      fine (active q _ h d Q idle H) (notice_lawful at refl refl refl refl) (parts p) refl
+      fine (active q _ h d Q idle H) (request_lawful at refl refl refl refl) (parts p) refl
   transfer_timed_out_fine (active q _ h d Q (initiate n s) H) = fine (active q _ h d Q idle H) tt (abandon_tells s) refl
   transfer_timed_out_fine (active q _ h d Q setup H) = fine (active q _ h d Q idle H) tt (keeps None) refl
   transfer_timed_out_fine S = expired_fine slot.Transfer S

@@ -16,7 +16,7 @@ use Rattle.machine.specs.Messages.{notice_on}
 use Rattle.rules.specs.Sound.{InWord, InIdentity, NextInRange, OwedInRange, Sound, free, calling, active, idle, identify, initiate, asked, bound, SoundBond, LawfulIf}
 use Rattle.machine.specs.declared.event.Event.TheVariants as event
 use Rattle.rules.specs.Events.{FineTold, FineToldIf}
-use Rattle.rules.proofs.Sends.{release_lawful, notice_lawful, request_lawful, result_lawful, error_lawful}
+use Rattle.rules.proofs.Sends.{release_lawful, request_lawful, result_lawful, error_lawful}
 use Rattle.rules.proofs.Shapes.{with_transfer_lem}
 use Rattle.machine.specs.Told.{unmoved, parting, bond_initiates, bond_completes, bond_sends, partner_lost}
 use Rattle.machine.specs.declared.event.Event.TheVariants as event
@@ -45,7 +45,7 @@ unmoved_fine : {l : Leg} → Sound l → FineTold (unmoved l)
 unmoved_fine S = told_fine S tt refl
 
 pub abandon_lawful : (at : Place) → Lawful (notice_on at operation.CallTransferAbandon)
-abandon_lawful at = notice_lawful at refl refl refl refl
+abandon_lawful at = request_lawful at refl refl refl refl
 
 pub parting_fine : {l : Leg} {m : Option Message} → Sound l → is_active l ≡ true → LawfulIf m → FineTold (parting l m)
 parting_fine S e L = told_fine (with_transfer_lem S e idle) L refl
@@ -76,7 +76,7 @@ lost_partner at _ (active q _ h d Q (initiate n s) H) = unmoved_fine (active q _
 lost_partner at _ (active q _ h d Q (bound b B) H) = told_fine (active q _ h d Q idle H) (bond_sends_lem at b B) refl
 lost_partner at _ S = unmoved_fine S
 
--- what holds of a leg that is asked, and of one that is bound
+-- what a leg that is asked keeps is in range
 pub asked_in : (l : Leg) → Sound l → (o : Owed) → l.transfer ≡ transfer.Asked o → OwedInRange o
 asked_in _ (active q _ h d Q (asked x O) H) o e = let same : x ≡ o = cc in subst OwedInRange same O
 asked_in _ _ o e = cc
