@@ -7,7 +7,6 @@ use Rattle.message.specs.declared.codes.Kind.{Kind}
 use Rattle.message.specs.declared.codes.Kind.TheVariants as kind
 use Rattle.message.specs.declared.codes.Operation.{Operation}
 use Rattle.message.specs.declared.codes.Operation.TheVariants as operation
-use Rattle.message.specs.declared.codes.ErrorCode.{ErrorCode}
 use Rattle.message.specs.declared.codes.ErrorCode.TheVariants as error
 use Rattle.message.specs.declared.record.Message.{Message}
 use Rattle.message.specs.Format.{Lawful}
@@ -39,7 +38,7 @@ use Rattle.rules.specs.Events.{Fine, FineIf}
 use Rattle.rules.proofs.Sends.{release_lawful, result_lawful, identity_lawful, error_lawful}
 use Rattle.rules.proofs.Cases.{by_test}
 use Rattle.rules.proofs.Shapes.{fine, acting_fine, strayed_fine, leaving_fine, lost_fine, part_tells, abandon_tells, part_few}
-use Rattle.machine.specs.Invokes.{failed, owed_for, invoked, set_up}
+use Rattle.machine.specs.Invokes.{owed_for, invoked, set_up}
 use Rattle.machine.specs.Replies.{resulted, faulted, setup_result, alerted, connected, lost, released, served, heard_on}
 
 -- what is known of the numbers of a lawful message with this operation
@@ -66,23 +65,20 @@ module _ {Other : Place → Word → Bool} {at : Place} where
   either_fine : {l : Leg} (b : Bool) (x y : Reaction) → Fine Other at l x → Fine Other at l y → Fine Other at l (cond b x y)
   either_fine {l = l} b x y F G = by_test (Fine Other at l) b x y (λ _. F) (λ _. G)
 
-  failed_fine : {l : Leg} {o : Operation} {n : ℕ} {e : ErrorCode} → Sound l → Lawful (error_on at carrier.Facility o n e) → Fine Other at l (failed l at o n e)
-  failed_fine S L = acting_fine S L refl
-
   invoked_fine : {l : Leg} (own : ℕ) (o : Operation) (m : Message) → Sound l → InWord own → Told m kind.Invoke o → Fine Other at l (invoked l at own o m)
   invoked_fine own operation.CallTransferIdentify m (active q _ h d Q idle H) W M = fine (active q _ h d Q setup H) (identity_lawful at M.number W) (keeps None) refl
-  invoked_fine own operation.CallTransferIdentify m S W M = failed_fine S (error_lawful at refl M.number refl refl)
+  invoked_fine own operation.CallTransferIdentify m S W M = acting_fine S (error_lawful at refl M.number refl refl) refl
   invoked_fine own operation.CallTransferAbandon m (active q _ h d Q setup H) W M = fine (active q _ h d Q idle H) tt (keeps None) refl
   invoked_fine own operation.CallTransferInitiate m (active q _ h d Q idle H) W M =
       acting_fine (active q _ h d Q (asked (owed_for m) (record { number = M.number; identity = M.identity; address = M.address })) H) tt refl
-  invoked_fine own operation.CallTransferInitiate m S W M = failed_fine S (error_lawful at refl M.number refl refl)
+  invoked_fine own operation.CallTransferInitiate m S W M = acting_fine S (error_lawful at refl M.number refl refl) refl
   invoked_fine own operation.HoldNotific m (active q t holder.Idle None Q T H) W M = acting_fine (active q t _ (Some hold.Near) Q T (is_held _)) tt refl
   invoked_fine own operation.RetrieveNotific m (active q t h (Some hold.Near) Q T H) W M = acting_fine (active q t h None Q T (holds h)) tt refl
   invoked_fine own operation.RemoteHold m (active q t holder.Idle None Q T H) W M =
       acting_fine (active q t _ (Some hold.Remote) Q T (is_held _)) (result_lawful at refl M.number refl refl) refl
-  invoked_fine own operation.RemoteHold m S W M = failed_fine S (error_lawful at refl M.number refl refl)
+  invoked_fine own operation.RemoteHold m S W M = acting_fine S (error_lawful at refl M.number refl refl) refl
   invoked_fine own operation.RemoteRetrieve m (active q t h (Some hold.Remote) Q T H) W M = acting_fine (active q t h None Q T (holds h)) (result_lawful at refl M.number refl refl) refl
-  invoked_fine own operation.RemoteRetrieve m S W M = failed_fine S (error_lawful at refl M.number refl refl)
+  invoked_fine own operation.RemoteRetrieve m S W M = acting_fine S (error_lawful at refl M.number refl refl) refl
   invoked_fine own _ m S W M = strayed_fine S
 
   -- ---- replies, which bring the number of a request

@@ -15,8 +15,7 @@ use Rattle.leg.specs.declared.reaction.UpToTwo.TheVariants as few
 use Rattle.leg.specs.declared.record.Leg.{Leg}
 use Rattle.leg.specs.Places.{place_of}
 use Rattle.leg.specs.Views.{free_leg}
-use Rattle.leg.specs.Reactions.{up_to_two}
-use Rattle.rules.specs.Sound.{Sound, free, InWord, NextInRange, LawfulIf, tie_of}
+use Rattle.rules.specs.Sound.{Sound, free, InWord, NextInRange, tie_of}
 use Rattle.rules.proofs.Cases.{by_test}
 use Rattle.timers.specs.declared.meaning.Due.{Due}
 use Rattle.rules.specs.Answers.{Answer, did, taken, shown}
@@ -33,17 +32,10 @@ use Rattle.rules.specs.Runs.{runs}
 use Rattle.rules.specs.Consistent.{Consistent}
 use Rattle.rules.specs.Laws.{LawfulAnswer, AlwaysConsistent, AlwaysLawful, EndsAllNamed, RefusedChangesNothing}
 use Rattle.rules.proofs.Tables.{read, size_put, all_put}
-use Rattle.rules.proofs.Pairs.{OtherFine, Keeps, KeepsIf}
+use Rattle.rules.proofs.Pairs.{OtherSound, Keeps, KeepsIf}
 use Rattle.rules.proofs.Calls.{timeout_keeps, call_keeps}
 
 -- ---- after a plan
-
-sent_lawful : (a b : Option Message) → LawfulIf a → LawfulIf b → AllByRecursion Lawful (listed (up_to_two a b))
-sent_lawful a b A B = grind arith
-
-other_lawful : (o : Option Told) → OtherFine o → LawfulIf (other_sent o)
-other_lawful None F = tt
-other_lawful (Some t) F = F.1
 
 one_more : (n : ℕ) → InWord n → n < 65535 → InWord (n + 1)
 one_more n e h = grind (arith, nat_tests)
@@ -56,9 +48,9 @@ module _ (s : State) (C : Consistent s) where
   size_after : (legs : List Leg) (o : Option Told) → length legs ≡ 32 → length (put_other legs o) ≡ 32
   size_after legs o e = grind (arith, size_put)
 
-  sound_after : (legs : List Leg) (o : Option Told) → length legs ≡ 32 → ((p : Place) → Sound (read legs p)) → OtherFine o → (p : Place) → Sound (read (put_other legs o) p)
+  sound_after : (legs : List Leg) (o : Option Told) → length legs ≡ 32 → ((p : Place) → Sound (read legs p)) → OtherSound o → (p : Place) → Sound (read (put_other legs o) p)
   sound_after legs None e S F p = S p
-  sound_after legs (Some t) e S F p = all_put legs t.to t.reaction.leg Sound e S F.0 p
+  sound_after legs (Some t) e S F p = all_put legs t.to t.reaction.leg Sound e S F p
 
   after_consistent : (t : ℕ) (x : Plan) → Keeps s x → t ≤ 2 ^ 40 → ltb (free_places s) (length (listed (plan_sent x))) ≡ false → Consistent (after s t x)
   after_consistent t x K T room =
@@ -68,7 +60,7 @@ module _ (s : State) (C : Consistent s) where
         partners = K.partners;
         next = by_test NextInRange (asks x.own.sent || asks (other_sent x.other)) _ _ (λ _. following_fits s.next C.next) (λ _. C.next);
         time = T;
-        lawful = All-append Lawful s.waiting (listed (plan_sent x)) C.lawful (sent_lawful x.own.sent (other_sent x.other) K.lawful (other_lawful x.other K.other));
+        lawful = All-append Lawful s.waiting (listed (plan_sent x)) C.lawful K.lawful;
         fits = simp length-append (omega (arith, C.fits, ltb-false (free_places s) (length (listed (plan_sent x))) room));
       }
     where
@@ -84,7 +76,7 @@ module _ (s : State) (C : Consistent s) where
   carried_good t x K T =
       by_test Good (ltb (free_places s) (length (listed (plan_sent x)))) _ _
       (λ _. (tt, C))
-      (λ room. (sent_lawful x.own.sent (other_sent x.other) K.lawful (other_lawful x.other K.other), after_consistent t x K T room))
+      (λ room. (K.lawful, after_consistent t x K T room))
 
   settled_good : (t : ℕ) (d : Result Plan Refusal) → KeepsIf s d → t ≤ 2 ^ 40 → Good (settled s t d)
   settled_good t (Err why) K T = (tt, C)

@@ -25,14 +25,15 @@ use Rattle.leg.specs.Reactions.{up_to_two}
 use Rattle.machine.specs.Reactions.{settling, leaving, last_ends, request_end}
 use Rattle.machine.specs.Messages.{notice_on, release_on}
 use Rattle.machine.specs.Told.{parting, bond_sends, unmoved, bond_initiates, bond_completes, told_word}
-use Rattle.rules.specs.Sound.{leg, tie_ends, InWord, InIdentity, Sound, Tie, identifies, initiates, sets_up, tie_of, transfer_tie, tied_to, returned, Tells, keeps, consults, places, meets, hands, parts, releases, abandons, completes, loses, end_follows, is_two, LawfulIf}
+use Rattle.rules.specs.Sound.{leg, tie_ends, InWord, InIdentity, Sound, Tie, identifies, initiates, sets_up, tie_of, tied_to, returned, Tells, keeps, consults, places, meets, hands, parts, releases, abandons, completes, loses, end_follows, is_two, LawfulIf}
 use Rattle.rules.specs.Events.{Fine, FineIf, FineTold, FineToldIf, ReadyFor}
-use Rattle.rules.proofs.Shapes.{idle_tie}
 use Rattle.rules.proofs.Tolds.{told_stays_sound, parting_fine, abandon_lawful}
 use Rattle.rules.specs.declared.plan.Told.{Told}
 use Rattle.rules.specs.declared.plan.Plan.{Plan}
 use Rattle.rules.specs.States.{State, leg_at}
-use Rattle.rules.specs.Plans.{telling, planned, reacting, followed, listed, plan_ends, other_ends, put_leg, put_other, also}
+use Rattle.std.specs.List.{AllByRecursion}
+use Rattle.message.specs.Format.{Lawful}
+use Rattle.rules.specs.Plans.{plan_sent, telling, planned, reacting, followed, listed, plan_ends, other_ends, put_leg, put_other, also}
 use Rattle.rules.specs.Steps.{plan_in}
 use Rattle.rules.specs.Consistent.{Mutual, Consistent}
 use Rattle.rules.proofs.Tables.{read, read_same, read_other, size_put, place_cases}
@@ -66,13 +67,16 @@ module _ {A : Type 0} where
 
 -- ---- what a plan keeps
 
-abbrev pub OtherFine : Option Told → Type 0
-OtherFine o = elim o [ None ↦ Unit {0} | Some t ↦ Sound t.reaction.leg × LawfulIf t.reaction.sent ]
+sent_lawful : (a b : Option Message) → LawfulIf a → LawfulIf b → AllByRecursion Lawful (listed (up_to_two a b))
+sent_lawful a b A B = grind arith
+
+abbrev pub OtherSound : Option Told → Type 0
+OtherSound o = elim o [ None ↦ Unit {0} | Some t ↦ Sound t.reaction.leg ]
 
 pub record Keeps (s : State) (x : Plan) : Type 0 where
   pub sound : Sound x.own.leg
-  pub lawful : LawfulIf x.own.sent
-  pub other : OtherFine x.other
+  pub other : OtherSound x.other
+  pub lawful : AllByRecursion Lawful (listed (plan_sent x))
   pub partners : Mutual (λ y. tie_of (read (put_other (put_leg s.legs x.place x.own.leg) x.other) y))
   pub whole : listed (plan_ends x) ≡ listed x.own.ends ++ listed (other_ends x.other)
 
@@ -84,11 +88,9 @@ KeepsIf s d = KeepsAny s (plan_in d)
 
 -- ---- the leg that is told, by its state or its tie
 
-asked_tie : (u : Transfer) → when_asked u (λ _. true) false ≡ true → transfer_tie u ≡ None
-asked_tie u e = grind arith
-
-awaiting_tie : (u : Transfer) → when_await_setup u true false ≡ true → transfer_tie u ≡ None
-awaiting_tie u e = grind arith
+-- a leg that may be told as no partner has no tie
+fits_tie : (l : Leg) (w : Word) → word_fits l w ≡ true → tie_of l ≡ None
+fits_tie l w e = grind arith
 
 abbrev request_in : Transfer → Option Request
 request_in u = transfer_request (leg phase.Active 0 u holder.Idle None)
@@ -171,8 +173,8 @@ module _ (s : State) (C : Consistent s) (p : Place) (r : Reaction) (F : Sound r.
   alone_keeps e =
       record {
         sound = F;
-        lawful = L;
         other = tt;
+        lawful = sent_lawful r.sent None L tt;
         partners = mutual_same ties (λ y. tie_of (read (put_leg s.legs p r.leg) y)) same C.partners;
         whole = whole_first r.ends;
       }
@@ -193,8 +195,8 @@ module _ (s : State) (C : Consistent s) (p : Place) (r : Reaction) (F : Sound r.
   two_keep q x apart lp lq X J W =
       record {
         sound = F;
-        lawful = L;
-        other = (X.sound, X.lawful);
+        other = X.sound;
+        lawful = sent_lawful r.sent x.sent L X.lawful;
         partners = mutual_two ties after p q (λ e. apart (sym e)) far lp lq C.partners (rw (first, second) J);
         whole = W;
       }
@@ -221,10 +223,19 @@ module _ (s : State) (C : Consistent s) (p : Place) (r : Reaction) (F : Sound r.
       let B = C.partners p t e in
       two_keep (tied_to t) x B.1 (λ u f. cc) (λ u f. cc (tied_returned t p)) X J W
 
+  -- who may be told is another leg, in the state that the word is for
+  may_told : (q : Place) (w : Word) → may_tell s p q w ≡ true → (q.index ≢ p.index) × (word_fits (at q) w ≡ true)
+  may_told q w X =
+      let parts = and_parts (not (eqb q.index p.index)) (word_fits (at q) w) X in
+      (eqb-false q.index p.index (not-true (eqb q.index p.index) parts.0), parts.1)
+
   -- a leg is told that is no partner
-  stranger_keeps : (q : Place) (x : Reaction) → q.index ≢ p.index → ties p ≡ None → ties q ≡ None → FineTold x → Joined p q (tie_of r.leg) (tie_of x.leg) → Whole x
+  stranger_keeps : (q : Place) (w : Word) (x : Reaction) → ties p ≡ None → may_tell s p q w ≡ true → FineTold x → Joined p q (tie_of r.leg) (tie_of x.leg) → Whole x
       → Keeps s (record { place = p; own = r; other = also q x })
-  stranger_keeps q x apart e f X J W = two_keep q x apart (λ u g. cc) (λ u g. cc) X J W
+  stranger_keeps q w x e X T J W =
+      let M = may_told q w X in
+      let f = fits_tie (at q) w M.1 in
+      two_keep q x M.0 (λ u g. cc) (λ u g. cc) T J W
 
   told : (q : Place) (w : Word) → ReadyFor (at q) w → FineToldIf (told_word (at q) q w s.next)
   told q w R = told_stays_sound (at q) q w s.next (C.sound q) C.next R
@@ -236,30 +247,23 @@ module _ (s : State) (C : Consistent s) (p : Place) (r : Reaction) (F : Sound r.
   made : (t : Tie) → ties p ≡ Some t → Makes (returned t p) (at (tied_to t)).transfer
   made t e = makes (at (tied_to t)).transfer (returned t p) (C.partners p t e).0
 
-  -- who may be told is another leg, in the state that the word is for
-  may_told : (q : Place) (w : Word) → may_tell s p q w ≡ true → (q.index ≢ p.index) × (word_fits (at q) w ≡ true)
-  may_told q w X =
-      let parts = and_parts (not (eqb q.index p.index)) (word_fits (at q) w) X in
-      (eqb-false q.index p.index (not-true (eqb q.index p.index) parts.0), parts.1)
-
   on_consult : (q : Place) → ties p ≡ None → tie_of r.leg ≡ Some (identifies q) → may_tell s p q (word.Consult p) ≡ true → Both q (word.Consult p)
   on_consult q e f X =
-      let M = may_told q (word.Consult p) X in
-      let A = and_parts (is_active (at q)) (is_idle (at q)) M.1 in
-      stranger_keeps q _ M.0 e (idle_tie (at q) A.1) (told q (word.Consult p) A.0) (inr (record { tie = identifies q; first = f; to = refl; second = refl })) (whole_first r.ends)
+      let w : Word = word.Consult p in
+      let A = and_parts (is_active (at q)) (is_idle (at q)) (may_told q w X).1 in
+      stranger_keeps q w _ e X (told q w A.0) (inr (record { tie = identifies q; first = f; to = refl; second = refl })) (whole_first r.ends)
 
   on_place : (q : Place) → ties p ≡ None → tie_of r.leg ≡ Some (sets_up q) → may_tell s p q (word.Place p) ≡ true → Both q (word.Place p)
   on_place q e f X =
-      let M = may_told q (word.Place p) X in
+      let w : Word = word.Place p in
       let u : Transfer = (at q).transfer in
-      stranger_keeps q _ M.0 e (asked_tie u M.1) (told q (word.Place p) tt)
-      (inr (record { tie = sets_up q; first = f; to = refl; second = placed_tie (at q) q u p M.1 }))
+      stranger_keeps q w _ e X (told q w tt)
+      (inr (record { tie = sets_up q; first = f; to = refl; second = placed_tie (at q) q u p (may_told q w X).1 }))
       (rw (placed_ends (at q) q u p) (whole_first r.ends))
 
   on_met : (q : Place) → ties p ≡ None → tie_of r.leg ≡ None → may_tell s p q word.Met ≡ true → is_two r.ends ≡ false → Both q word.Met
   on_met q e f X w =
-      let M = may_told q word.Met X in
-      stranger_keeps q _ M.0 e (awaiting_tie (at q).transfer M.1) (told q word.Met tt) (inl (f, refl)) (whole_both r.ends _ w (awaiting_few (at q) q (at q).transfer M.1))
+      stranger_keeps q word.Met _ e X (told q word.Met tt) (inl (f, refl)) (whole_both r.ends _ w (awaiting_few (at q) q (at q).transfer (may_told q word.Met X).1))
 
   -- the partner goes back to idle
   on_parting : (t : Tie) (m : Option Message) → ties p ≡ Some t → tie_of r.leg ≡ None → tie_waits (returned t p) ≡ true → LawfulIf m → Keeps s (record { place = p; own = r; other = also (tied_to t) (parting (at (tied_to t)) m) })

@@ -1,4 +1,4 @@
--- A record that occurs, with one field changed, occurs.
+-- The shapes of reactions: what is to be shown of each.
 use Rattle.std.proofs.Common.{◌≡◌, Bool, true, false, Some, None, Option, refl, arith}
 use Rattle.message.specs.declared.record.Message.{Message}
 use Rattle.leg.specs.declared.place.Place.{Place}
@@ -17,18 +17,11 @@ use Rattle.leg.specs.declared.reaction.Slot.TheVariants as slot
 use Rattle.leg.specs.declared.reaction.Reaction.{Reaction}
 use Rattle.leg.specs.declared.reaction.Named.{Named}
 use Rattle.leg.specs.declared.codes.Note.{Note}
-use Rattle.leg.specs.Views.{is_active, is_idle, with_transfer, partner_of}
+use Rattle.leg.specs.Views.{partner_of}
 use Rattle.machine.specs.Reactions.{last_ends, tell_to, acting, strayed, leaving, tell_lost}
 use Rattle.machine.specs.Timeouts.{expired}
-use Rattle.rules.specs.Sound.{end_follows, is_two, leg, transfer_tie, secondary_tie, releases, abandons, Sound, free, active, SoundTransfer, Tie, tie_of, Tells, keeps, loses, LawfulIf}
+use Rattle.rules.specs.Sound.{end_follows, is_two, leg, transfer_tie, secondary_tie, releases, abandons, Sound, free, Tie, tie_of, Tells, keeps, loses, LawfulIf}
 use Rattle.rules.specs.Events.{Fine}
-
-pub with_transfer_lem : {l : Leg} {t : Transfer} → Sound l → is_active l ≡ true → SoundTransfer t → Sound (with_transfer l t)
-with_transfer_lem (active q u h d Q U H) e T = active q _ h d Q T H
-with_transfer_lem _ e T = cc
-
-pub idle_tie : (l : Leg) → is_idle l ≡ true → tie_of l ≡ None
-idle_tie l e = grind arith
 
 -- where the partner of a leg that ends may name an end, this leg names one at most
 lost_few : (t : Transfer) (h : Holder) (k : Named) → end_follows (transfer_tie t) (tell_to (partner_of (leg phase.Free 0 t h None)) word.Lost) ≡ true → is_two (last_ends (leg phase.Free 0 t h None) k) ≡ false
@@ -37,8 +30,6 @@ lost_few t h k e = grind arith
 -- a secondary that parts names no end
 pub part_few : (t : Option Tie) (s : Option Place) → end_follows t (tell_to s word.Part) ≡ false
 part_few t s = grind arith
-
--- ---- the shapes of reactions
 
 module _ {Other : Place → Word → Bool} {at : Place} where
   -- a reaction that names one end at most

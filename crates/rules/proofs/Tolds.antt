@@ -17,7 +17,6 @@ use Rattle.rules.specs.Sound.{InWord, InIdentity, NextInRange, OwedInRange, Soun
 use Rattle.machine.specs.declared.event.Event.TheVariants as event
 use Rattle.rules.specs.Events.{FineTold, FineToldIf}
 use Rattle.rules.proofs.Sends.{release_lawful, request_lawful, result_lawful, error_lawful}
-use Rattle.rules.proofs.Shapes.{with_transfer_lem}
 use Rattle.machine.specs.Told.{unmoved, parting, bond_initiates, bond_completes, bond_sends, partner_lost}
 use Rattle.machine.specs.declared.event.Event.TheVariants as event
 use Rattle.rules.specs.Events.{LegStaysSound, ToldStaysSound}
@@ -48,7 +47,12 @@ pub abandon_lawful : (at : Place) → Lawful (notice_on at operation.CallTransfe
 abandon_lawful at = request_lawful at refl refl refl refl
 
 pub parting_fine : {l : Leg} {m : Option Message} → Sound l → is_active l ≡ true → LawfulIf m → FineTold (parting l m)
-parting_fine S e L = told_fine (with_transfer_lem S e idle) L refl
+parting_fine (active q _ h d Q T H) e L = told_fine (active q _ h d Q idle H) L refl
+parting_fine _ e L = cc
+
+told_consult : {l : Leg} (s : Place) → Sound l → is_active l ≡ true → FineTold (unmoved (with_transfer l (transfer.Bound (bond.Consulting s))))
+told_consult s (active q _ h d Q T H) e = unmoved_fine (active q _ h d Q (bound _ (SoundBond.consulting s)) H)
+told_consult s _ e = cc
 
 told_place : {l : Leg} (n : Place) → Sound l → FineTold (when_asked l.transfer (λ o. unmoved (with_transfer l (transfer.Bound (bond.Placing n o)))) (unmoved l))
 told_place n (active q _ h d Q (asked o O) H) = unmoved_fine (active q _ h d Q (bound _ (SoundBond.placing n o O)) H)
@@ -82,7 +86,7 @@ asked_in _ (active q _ h d Q (asked x O) H) o e = let same : x ≡ o = cc in sub
 asked_in _ _ o e = cc
 
 pub told_stays_sound : ToldStaysSound
-told_stays_sound l at (word.Consult s) next S N R = unmoved_fine (with_transfer_lem S R (bound (bond.Consulting s) (SoundBond.consulting s)))
+told_stays_sound l at (word.Consult s) next S N R = told_consult s S R
 told_stays_sound l at (word.Place n) next S N R = told_place n S
 told_stays_sound l at (word.Initiate i a) next S N R = told_initiate at i a next S R.0 R.1 N
 told_stays_sound l at word.Part next S N R = parting_fine S R tt
