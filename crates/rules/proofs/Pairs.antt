@@ -139,21 +139,13 @@ lost_few : (l : Leg) (q : Place) (u : Transfer) (t : Tie) → Sound l → l.tran
 lost_few l q _ _ S e (response n p) = calling_few l S n p e
 lost_few l q _ _ S e _ = refl
 
--- something is awaited of the leg or of its far end, other than the answer to a set-up
-abbrev waits : Transfer → Bool
-waits t = when_idle t false (when_await_setup_response t (λ _ _. false) true)
+-- a leg with a tie is active, unless it sets up
+abbrev sets_none_up : Tie → Bool
+sets_none_up (sets_up _) = false
+sets_none_up _ = true
 
--- a leg that waits for a transfer is active, unless it calls
-waiting_active : {l : Leg} {t : Transfer} → Sound l → l.transfer ≡ t → waits t ≡ true → is_active l ≡ true
-waiting_active S e w = grind arith
-
--- the ties of a leg that waits
-abbrev tie_waits : Tie → Bool
-tie_waits (sets_up _) = false
-tie_waits _ = true
-
-makes_waits : (u : Transfer) (t : Tie) → Makes t u → tie_waits t ≡ true → waits u ≡ true
-makes_waits u t m e = grind arith
+tied_active : (l : Leg) (t : Tie) → Sound l → tie_of l ≡ Some t → sets_none_up t ≡ true → is_active l ≡ true
+tied_active l t S e f = grind arith
 
 -- a partner that names no end, seen from either side
 ends_back : (t : Tie) (p q : Place) → tie_ends (Some t) ≡ false → tie_ends (Some (returned (returned t p) q)) ≡ false
@@ -266,9 +258,10 @@ module _ (s : State) (C : Consistent s) (p : Place) (r : Reaction) (F : Sound r.
       stranger_keeps q word.Met _ e X (told q word.Met tt) (inl (f, refl)) (whole_both r.ends _ w (awaiting_few (at q) q (at q).transfer (may_told q word.Met X).1))
 
   -- the partner goes back to idle
-  on_parting : (t : Tie) (m : Option Message) → ties p ≡ Some t → tie_of r.leg ≡ None → tie_waits (returned t p) ≡ true → LawfulIf m → Keeps s (record { place = p; own = r; other = also (tied_to t) (parting (at (tied_to t)) m) })
-  on_parting t m e f w M =
-      partner_keeps t _ e (parting_fine (C.sound (tied_to t)) (waiting_active (C.sound (tied_to t)) refl (makes_waits _ (returned t p) (made t e) w)) M) (inl (f, refl)) (whole_first r.ends)
+  on_parting : (t : Tie) (m : Option Message) → ties p ≡ Some t → tie_of r.leg ≡ None → sets_none_up (returned t p) ≡ true → LawfulIf m → Keeps s (record { place = p; own = r; other = also (tied_to t) (parting (at (tied_to t)) m) })
+  on_parting t m e f n M =
+      let S = C.sound (tied_to t) in
+      partner_keeps t _ e (parting_fine S (tied_active _ (returned t p) S (C.partners p t e).0 n) M) (inl (f, refl)) (whole_first r.ends)
 
   on_complete : (q : Place) → ties p ≡ Some (sets_up q) → tie_of r.leg ≡ None → is_two r.ends ≡ false → Both q word.Complete
   on_complete q e f w =
