@@ -9,9 +9,6 @@ use Rattle.leg.specs.declared.record.Bond.TheVariants as bond
 use Rattle.leg.specs.declared.record.Transfer.{Transfer}
 use Rattle.leg.specs.declared.record.Transfer.TheVariants as transfer
 use Rattle.leg.specs.declared.record.Leg.{Leg}
-use Rattle.leg.specs.declared.record.Request.{Request}
-use Rattle.leg.specs.declared.record.Phase.TheVariants as phase
-use Rattle.leg.specs.declared.record.Holder.TheVariants as holder
 use Rattle.message.specs.declared.codes.Operation.TheVariants as operation
 use Rattle.leg.specs.declared.reaction.Named.TheVariants as named
 use Rattle.leg.specs.declared.reaction.Reaction.{Reaction}
@@ -20,12 +17,12 @@ use Rattle.leg.specs.declared.reaction.UpToTwo.{UpToTwo}
 use Rattle.leg.specs.declared.reaction.UpToTwo.TheVariants as few
 use Rattle.leg.specs.declared.reaction.Word.{Word}
 use Rattle.leg.specs.declared.reaction.Word.TheVariants as word
-use Rattle.leg.specs.Views.{when_idle, when_await_setup_response, when_await_setup, is_active, is_idle, is_awaiting_setup, when_asked, when_bound, with_transfer, hold_request, transfer_request}
+use Rattle.leg.specs.Views.{is_active, is_idle, is_awaiting_setup, when_asked, when_bound, with_transfer}
 use Rattle.leg.specs.Reactions.{up_to_two}
-use Rattle.machine.specs.Reactions.{settling, leaving, last_ends, request_end}
+use Rattle.machine.specs.Reactions.{settling, leaving, last_ends}
 use Rattle.machine.specs.Messages.{notice_on, release_on}
 use Rattle.machine.specs.Told.{parting, bond_sends, unmoved, bond_initiates, bond_completes, told_word}
-use Rattle.rules.specs.Sound.{leg, tie_ends, InWord, InIdentity, Sound, Tie, identifies, initiates, sets_up, tie_of, tied_to, returned, Tells, keeps, consults, places, meets, hands, parts, releases, abandons, completes, loses, end_follows, is_two, LawfulIf}
+use Rattle.rules.specs.Sound.{tie_ends, InWord, InIdentity, Sound, Tie, identifies, initiates, sets_up, tie_of, transfer_tie, tied_to, returned, Tells, keeps, consults, places, meets, hands, parts, releases, abandons, completes, loses, end_follows, is_two, LawfulIf}
 use Rattle.rules.specs.Events.{Fine, FineIf, FineTold, FineToldIf, ReadyFor}
 use Rattle.rules.proofs.Tolds.{told_stays_sound, parting_fine, abandon_lawful}
 use Rattle.rules.specs.declared.plan.Told.{Told}
@@ -38,7 +35,7 @@ use Rattle.rules.specs.Steps.{plan_in}
 use Rattle.rules.specs.Consistent.{Mutual, Consistent}
 use Rattle.rules.proofs.Tables.{read, read_same, read_other, size_put, place_cases}
 use Rattle.rules.proofs.Mutuals.{Linked, Joined, mutual_same, mutual_two, tied_returned}
-use Rattle.rules.proofs.Ties.{Makes, makes, response, consulting, placing}
+use Rattle.rules.proofs.Ties.{Makes, makes, consulting}
 
 -- which legs that are no partners may be told what: another leg than this one, in the state that the word is for
 abbrev pub word_fits : Leg → Word → Bool
@@ -92,9 +89,6 @@ KeepsIf s d = KeepsAny s (plan_in d)
 fits_tie : (l : Leg) (w : Word) → word_fits l w ≡ true → tie_of l ≡ None
 fits_tie l w e = grind arith
 
-abbrev request_in : Transfer → Option Request
-request_in u = transfer_request (leg phase.Active 0 u holder.Idle None)
-
 module _ (l : Leg) (q : Place) where
   -- the reaction to the loss of the partner, the transfer state being u
   abbrev pub lost_in : Transfer → Reaction
@@ -108,36 +102,32 @@ module _ (l : Leg) (q : Place) where
     | transfer.Bound b ↦ parting l (bond_sends q b)
   ]
 
-  placed_tie : (u : Transfer) (p : Place) → when_asked u (λ _. true) false ≡ true → tie_of (when_asked u (λ o. unmoved (with_transfer l (transfer.Bound (bond.Placing p o)))) (unmoved l)).leg ≡ Some (Tie.placing p)
-  placed_tie u p e = grind arith
+  placed_tie : (p : Place) → when_asked l.transfer (λ _. true) false ≡ true → tie_of (when_asked l.transfer (λ o. unmoved (with_transfer l (transfer.Bound (bond.Placing p o)))) (unmoved l)).leg ≡ Some (Tie.placing p)
+  placed_tie p e = grind arith
 
-  placed_ends : (u : Transfer) (p : Place) → (when_asked u (λ o. unmoved (with_transfer l (transfer.Bound (bond.Placing p o)))) (unmoved l)).ends ≡ few.Zero
-  placed_ends u p = grind arith
+  placed_ends : (p : Place) → (when_asked l.transfer (λ o. unmoved (with_transfer l (transfer.Bound (bond.Placing p o)))) (unmoved l)).ends ≡ few.Zero
+  placed_ends p = grind arith
 
   -- a leg that awaits a set-up has no request of its own on the transfer timer
-  awaiting_few : (u : Transfer) → when_await_setup u true false ≡ true → is_two (up_to_two (request_end (request_in u) cause.Cleared) (request_end (hold_request l) cause.Cleared)) ≡ false
-  awaiting_few u e = grind arith
+  awaiting_few : is_awaiting_setup l ≡ true → is_two (last_ends l named.Neither) ≡ false
+  awaiting_few e = grind arith
 
-  completed_tie : (u : Transfer) (p : Place) → Makes (Tie.placing p) u → tie_of (when_bound u (bond_completes l q) (unmoved l)).leg ≡ None
-  completed_tie _ p (placing _ o) = refl
+  completed_tie : (p : Place) → tie_of l ≡ Some (Tie.placing p) → tie_of (when_bound l.transfer (bond_completes l q) (unmoved l)).leg ≡ None
+  completed_tie p e = grind arith
 
-  completed_few : (u : Transfer) (p : Place) → l.transfer ≡ u → Makes (Tie.placing p) u → is_two (when_bound u (bond_completes l q) (unmoved l)).ends ≡ false
-  completed_few u p e m = grind arith
+  completed_few : is_two (when_bound l.transfer (bond_completes l q) (unmoved l)).ends ≡ false
+  completed_few = grind arith
 
   -- what the partner of a leg that ended comes to, by its own tie
-  lost_tie : (u : Transfer) (t : Tie) → Makes t u → tie_of (lost_in u).leg ≡ None
-  lost_tie u t m = grind arith
+  lost_tie : (u : Transfer) (t : Tie) → transfer_tie u ≡ Some t → tie_of (lost_in u).leg ≡ None
+  lost_tie u t e = grind arith
 
-  lost_zero : (u : Transfer) (t : Tie) → Makes t u → tie_ends (Some (returned t q)) ≡ false → (lost_in u).ends ≡ few.Zero
-  lost_zero u t m f = grind arith
+  lost_zero : (u : Transfer) (t : Tie) → transfer_tie u ≡ Some t → tie_ends (Some (returned t q)) ≡ false → (lost_in u).ends ≡ few.Zero
+  lost_zero u t e f = grind arith
 
--- a leg that calls has no hold request, so it names one end at most
-calling_few : (l : Leg) → Sound l → (n : ℕ) (p : Place) → l.transfer ≡ transfer.AwaitSetupResponse n p → is_two (last_ends l named.Neither) ≡ false
-calling_few l S n p e = grind arith
-
-lost_few : (l : Leg) (q : Place) (u : Transfer) (t : Tie) → Sound l → l.transfer ≡ u → Makes t u → is_two (lost_in l q u).ends ≡ false
-lost_few l q _ _ S e (response n p) = calling_few l S n p e
-lost_few l q _ _ S e _ = refl
+  -- a leg that calls has no hold request, so it names one end at most
+  lost_few : (u : Transfer) → Sound l → l.transfer ≡ u → is_two (lost_in u).ends ≡ false
+  lost_few u S e = grind arith
 
 -- a leg with a tie is active, unless it sets up
 abbrev sets_none_up : Tie → Bool
@@ -235,10 +225,6 @@ module _ (s : State) (C : Consistent s) (p : Place) (r : Reaction) (F : Sound r.
   abbrev Both : Place → Word → Type 0
   Both q w = KeepsIf s (telling p r q (told_word (at q) q w s.next))
 
-  -- the partner's transfer state
-  made : (t : Tie) → ties p ≡ Some t → Makes (returned t p) (at (tied_to t)).transfer
-  made t e = makes (at (tied_to t)).transfer (returned t p) (C.partners p t e).0
-
   on_consult : (q : Place) → ties p ≡ None → tie_of r.leg ≡ Some (identifies q) → may_tell s p q (word.Consult p) ≡ true → Both q (word.Consult p)
   on_consult q e f X =
       let w : Word = word.Consult p in
@@ -248,14 +234,13 @@ module _ (s : State) (C : Consistent s) (p : Place) (r : Reaction) (F : Sound r.
   on_place : (q : Place) → ties p ≡ None → tie_of r.leg ≡ Some (sets_up q) → may_tell s p q (word.Place p) ≡ true → Both q (word.Place p)
   on_place q e f X =
       let w : Word = word.Place p in
-      let u : Transfer = (at q).transfer in
       stranger_keeps q w _ e X (told q w tt)
-      (inr (record { tie = sets_up q; first = f; to = refl; second = placed_tie (at q) q u p (may_told q w X).1 }))
-      (rw (placed_ends (at q) q u p) (whole_first r.ends))
+      (inr (record { tie = sets_up q; first = f; to = refl; second = placed_tie (at q) q p (may_told q w X).1 }))
+      (rw (placed_ends (at q) q p) (whole_first r.ends))
 
   on_met : (q : Place) → ties p ≡ None → tie_of r.leg ≡ None → may_tell s p q word.Met ≡ true → is_two r.ends ≡ false → Both q word.Met
   on_met q e f X w =
-      stranger_keeps q word.Met _ e X (told q word.Met tt) (inl (f, refl)) (whole_both r.ends _ w (awaiting_few (at q) q (at q).transfer (may_told q word.Met X).1))
+      stranger_keeps q word.Met _ e X (told q word.Met tt) (inl (f, refl)) (whole_both r.ends _ w (awaiting_few (at q) q (may_told q word.Met X).1))
 
   -- the partner goes back to idle
   on_parting : (t : Tie) (m : Option Message) → ties p ≡ Some t → tie_of r.leg ≡ None → sets_none_up (returned t p) ≡ true → LawfulIf m → Keeps s (record { place = p; own = r; other = also (tied_to t) (parting (at (tied_to t)) m) })
@@ -265,17 +250,16 @@ module _ (s : State) (C : Consistent s) (p : Place) (r : Reaction) (F : Sound r.
 
   on_complete : (q : Place) → ties p ≡ Some (sets_up q) → tie_of r.leg ≡ None → is_two r.ends ≡ false → Both q word.Complete
   on_complete q e f w =
-      let m = made (sets_up q) e in
-      partner_keeps (sets_up q) _ e (told q word.Complete tt) (inl (f, completed_tie (at q) q (at q).transfer p m)) (whole_both r.ends _ w (completed_few (at q) q (at q).transfer p refl m))
+      partner_keeps (sets_up q) _ e (told q word.Complete tt) (inl (f, completed_tie (at q) q p (C.partners p (sets_up q) e).0)) (whole_both r.ends _ w (completed_few (at q) q))
 
   on_lost : (t : Tie) → ties p ≡ Some t → tie_of r.leg ≡ None → (tie_ends (Some t) ≡ true → is_two r.ends ≡ false) → Both (tied_to t) word.Lost
   on_lost t e f w =
       let q = tied_to t in
       let u : Transfer = (at q).transfer in
-      let m = made t e in
+      let m = (C.partners p t e).0 in
       partner_keeps t _ e (told q word.Lost tt) (inl (f, lost_tie (at q) q u (returned t p) m))
       (elim (cases_Bool (tie_ends (Some t))) [
-        | inl b ↦ whole_both r.ends _ (w b) (lost_few (at q) q u (returned t p) (C.sound q) refl m)
+        | inl b ↦ whole_both r.ends _ (w b) (lost_few (at q) q u (C.sound q) refl)
         | inr b ↦ rw (lost_zero (at q) q u (returned t p) m (ends_back t p q b)) (whole_first r.ends)
       ])
 
@@ -287,7 +271,7 @@ module _ (s : State) (C : Consistent s) (p : Place) (r : Reaction) (F : Sound r.
       partner_keeps (identifies q) _ e X (inr (record { tie = Tie.consulted q; first = f; to = refl; second = refl })) (whole_first r.ends)
 
   on_hand : (q : Place) (i a : ℕ) → ties p ≡ Some (identifies q) → tie_of r.leg ≡ Some (Tie.consulted q) → InIdentity i → InWord a → Both q (word.Initiate i a)
-  on_hand q i a e f I A = handed q i a s.next (at q).transfer refl (made (identifies q) e) e f (told q (word.Initiate i a) (I, A))
+  on_hand q i a e f I A = handed q i a s.next (at q).transfer refl (makes (at q).transfer (Tie.consulting p) (C.partners p (identifies q) e).0) e f (told q (word.Initiate i a) (I, A))
 
   by_tells : (t0 : Option Tie) (w : Option Tell) (t1 : Option Tie) → ties p ≡ t0 → tie_of r.leg ≡ t1 → Tells (may_tell s p) p t0 w t1 → (end_follows t0 w ≡ true → is_two r.ends ≡ false)
       → KeepsIf s (elim w [ None ↦ Ok (record { place = p; own = r; other = None }) | Some v ↦ telling p r v.to (told_word (at v.to) v.to v.word s.next) ])
