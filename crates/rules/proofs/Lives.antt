@@ -1,5 +1,5 @@
 -- Every life of a board keeps its state consistent.
-use Rattle.std.proofs.Common.{◌≡◌, ℕ, ◌+◌, ◌^◌, ◌<◌, ◌≤◌, false, ◌&&◌, ◌||◌, ltb, leb, List, [], ◌∷◌, length, Some, None, Ok, Err, Option, Result, refl, ap, ◌∙◌, arith, length-append}
+use Rattle.std.proofs.Common.{◌≡◌, ℕ, ◌^◌, ◌≤◌, false, ◌&&◌, ◌||◌, ltb, leb, List, [], ◌∷◌, length, Some, None, Ok, Err, Option, Result, refl, ap, ◌∙◌, arith, length-append}
 use lib.ListN.{get_or-replicate}
 use Rattle.std.proofs.ByRecursion.{All-append}
 use Rattle.std.proofs.lemmas.Bool.{and_parts, leb-true, ltb-false}
@@ -10,15 +10,13 @@ use Rattle.message.specs.Format.{Lawful}
 use Rattle.leg.specs.declared.place.Place.{Place}
 use Rattle.leg.specs.declared.codes.Note.TheVariants as note
 use Rattle.leg.specs.declared.codes.Refusal.{Refusal}
-use Rattle.leg.specs.declared.codes.Refusal.TheVariants as refusal
 use Rattle.leg.specs.declared.reaction.UpToTwo.TheVariants as few
 use Rattle.leg.specs.declared.record.Leg.{Leg}
 use Rattle.leg.specs.Places.{place_of}
 use Rattle.leg.specs.Views.{free_leg}
-use Rattle.rules.specs.Sound.{Sound, free, InWord, NextInRange, tie_of}
-use Rattle.rules.proofs.Cases.{by_test}
-use Rattle.timers.specs.declared.meaning.Due.{Due}
-use Rattle.rules.specs.Answers.{Answer, did, taken, shown}
+use Rattle.rules.specs.Sound.{Sound, free, NextInRange, tie_of}
+use Rattle.rules.proofs.Cases.{by_test, by_option}
+use Rattle.rules.specs.Answers.{Answer, did, taken}
 use Rattle.rules.specs.declared.call.Call.{Call}
 use Rattle.rules.specs.declared.call.Call.TheVariants as call
 use Rattle.rules.specs.declared.plan.Told.{Told}
@@ -36,9 +34,6 @@ use Rattle.rules.proofs.Pairs.{OtherSound, Keeps, KeepsIf}
 use Rattle.rules.proofs.Calls.{timeout_keeps, call_keeps}
 
 -- ---- after a plan
-
-one_more : (n : ℕ) → InWord n → n < 65535 → InWord (n + 1)
-one_more n e h = grind (arith, nat_tests)
 
 following_fits : (next : Option ℕ) → NextInRange next → NextInRange (following next)
 following_fits None N = tt
@@ -85,14 +80,12 @@ module _ (s : State) (C : Consistent s) where
   at_time_lem : (t : ℕ) → t ≤ 2 ^ 40 → Consistent (at_time s t)
   at_time_lem t T = assumption
 
-  tick_to_lem : (t : ℕ) (o : Option Due) → t ≤ 2 ^ 40 → Good (elim o [ None ↦ (did note.NoneDue few.Zero few.Zero, at_time s t) | Some d ↦ settled s t (timeout_plan s d) ])
-  tick_to_lem t None T = (tt, at_time_lem t T)
-  tick_to_lem t (Some d) T = settled_good t (timeout_plan s d) (timeout_keeps s C d) T
-
   tick_good : (t : ℕ) → Good (tick_step s t)
   tick_good t =
       by_test Good (leb s.time t && leb t (2 ^ 40)) _ _
-      (λ e. tick_to_lem t (due_by t s.deadlines) (leb-true t (2 ^ 40) (and_parts (leb s.time t) (leb t (2 ^ 40)) e).1))
+      (λ e.
+      let T = leb-true t (2 ^ 40) (and_parts (leb s.time t) (leb t (2 ^ 40)) e).1 in
+      by_option Good (due_by t s.deadlines) _ _ (tt, at_time_lem t T) (λ d. settled_good t _ (timeout_keeps s C d) T))
       (λ _. (tt, C))
 
   take_good : (w : List Message) → s.waiting ≡ w → Good (elim w [ [] ↦ (did note.QueueEmpty few.Zero few.Zero, s) | m ∷ ms ↦ (taken m, with_waiting s ms) ])
@@ -103,14 +96,10 @@ module _ (s : State) (C : Consistent s) where
       let room : length ms ≤ s.capacity = omega (arith, n) in
       (L.0, assumption L.1)
 
-  look_good : (o : Option Place) → Good (elim o [ None ↦ (Err refusal.NoSuchLeg, s) | Some p ↦ (shown (leg_at s p), s) ])
-  look_good None = (tt, C)
-  look_good _ = (tt, C)
-
-  pub step_good : (c : Call) → Good (step s c)
+  step_good : (c : Call) → Good (step s c)
   step_good (call.Tick t) = tick_good t
   step_good call.Take = take_good s.waiting refl
-  step_good (call.Look leg) = look_good (place_of leg)
+  step_good (call.Look leg) = by_option Good (place_of leg) _ _ (tt, C) (λ p. (tt, C))
   step_good c = settled_good s.time _ (call_keeps s C c) C.time
 
 -- ---- lives
@@ -118,7 +107,7 @@ module _ (s : State) (C : Consistent s) where
 fresh_free : (settings : Settings) (capacity : ℕ) (p : Place) → leg_at (fresh settings capacity) p ≡ free_leg
 fresh_free settings capacity p = get_or-replicate 32 p.index free_leg free_leg p.below
 
-pub fresh_consistent : (settings : Settings) (capacity : ℕ) → Consistent (fresh settings capacity)
+fresh_consistent : (settings : Settings) (capacity : ℕ) → Consistent (fresh settings capacity)
 fresh_consistent settings capacity =
     record {
       size = refl;
@@ -130,7 +119,7 @@ fresh_consistent settings capacity =
       fits = omega arith;
     }
 
-pub life_good : (s : State) (cs : List Call) → Consistent s → AllByRecursion LawfulAnswer (runs s cs).0 × Consistent (runs s cs).1
+life_good : (s : State) (cs : List Call) → Consistent s → AllByRecursion LawfulAnswer (runs s cs).0 × Consistent (runs s cs).1
 unfolding runs
 life_good s [] C = (tt, C)
 life_good s (c ∷ cs) C =
@@ -160,22 +149,17 @@ module _ (s : State) (why : Refusal) where
   settled_unchanged t (Err _) e = refl
   settled_unchanged t (Ok x) e = grind arith
 
-  tick_unchanged : (t : ℕ) (o : Option Due) → Unchanged (elim o [ None ↦ (did note.NoneDue few.Zero few.Zero, at_time s t) | Some d ↦ settled s t (timeout_plan s d) ])
-  tick_unchanged t None e = cc
-  tick_unchanged t (Some d) e = settled_unchanged t (timeout_plan s d) e
-
   take_unchanged : (w : List Message) → Unchanged (elim w [ [] ↦ (did note.QueueEmpty few.Zero few.Zero, s) | m ∷ ms ↦ (taken m, with_waiting s ms) ])
   take_unchanged [] e = refl
   take_unchanged _ e = cc
 
-  look_unchanged : (o : Option Place) → Unchanged (elim o [ None ↦ (Err refusal.NoSuchLeg, s) | Some p ↦ (shown (leg_at s p), s) ])
-  look_unchanged None e = refl
-  look_unchanged _ e = refl
-
   step_unchanged : (c : Call) → Unchanged (step s c)
-  step_unchanged (call.Tick t) = by_test Unchanged (leb s.time t && leb t (2 ^ 40)) _ _ (λ _. tick_unchanged t (due_by t s.deadlines)) (λ _ _. refl)
+  step_unchanged (call.Tick t) =
+      by_test Unchanged (leb s.time t && leb t (2 ^ 40)) _ _
+      (λ _. by_option Unchanged (due_by t s.deadlines) _ _ (λ e. cc) (λ d. settled_unchanged t (timeout_plan s d)))
+      (λ _ _. refl)
   step_unchanged call.Take = take_unchanged s.waiting
-  step_unchanged (call.Look leg) = look_unchanged (place_of leg)
+  step_unchanged (call.Look leg) = by_option Unchanged (place_of leg) _ _ (λ _. refl) (λ p _. refl)
   step_unchanged _ = settled_unchanged s.time _
 
 pub refused_changes_nothing : RefusedChangesNothing

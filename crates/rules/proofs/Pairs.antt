@@ -1,6 +1,7 @@
 -- A leg's reaction, and that of the leg it tells, keep a state consistent.
 use Rattle.std.proofs.Common.{◌≡◌, ℕ, Bool, true, false, not, ◌&&◌, eqb, ◌≢◌, List, [], ◌++◌, Some, None, Ok, Err, Option, Result, sym, refl, ap, ◌∙◌, inl, inr, arith}
-use Rattle.std.proofs.lemmas.Bool.{cases_Bool, and_parts, eqb-false, not-true}
+use Rattle.std.proofs.lemmas.Bool.{cases_Bool, and_parts}
+use Rattle.std.proofs.lemmas.Bool.Decides.{nat_tests}
 use Rattle.message.specs.declared.record.Message.{Message}
 use Rattle.leg.specs.declared.place.Place.{Place}
 use Rattle.leg.specs.declared.codes.Refusal.{Refusal}
@@ -53,6 +54,10 @@ word_fits l w = elim w [
 abbrev pub may_tell : State → Place → Place → Word → Bool
 may_tell s p q w = not (eqb q.index p.index) && word_fits (leg_at s q) w
 
+-- who may be told is another leg, in the state that the word is for
+may_told : (s : State) (p q : Place) (w : Word) → may_tell s p q w ≡ true → (q.index ≢ p.index) × (word_fits (leg_at s q) w ≡ true)
+may_told s p q w X = grind (arith, nat_tests)
+
 -- ---- ends
 
 module _ {A : Type 0} where
@@ -89,6 +94,17 @@ KeepsIf s d = KeepsAny s (plan_in d)
 fits_tie : (l : Leg) (w : Word) → word_fits l w ≡ true → tie_of l ≡ None
 fits_tie l w e = grind arith
 
+module _ (l : Leg) where
+  placed_tie : (p : Place) → when_asked l.transfer (λ _. true) false ≡ true → tie_of (when_asked l.transfer (λ o. unmoved (with_transfer l (transfer.Bound (bond.Placing p o)))) (unmoved l)).leg ≡ Some (Tie.placing p)
+  placed_tie p e = grind arith
+
+  placed_ends : (p : Place) → (when_asked l.transfer (λ o. unmoved (with_transfer l (transfer.Bound (bond.Placing p o)))) (unmoved l)).ends ≡ few.Zero
+  placed_ends p = grind arith
+
+  -- a leg that awaits a set-up has no request of its own on the transfer timer
+  awaiting_few : is_awaiting_setup l ≡ true → is_two (last_ends l named.Neither) ≡ false
+  awaiting_few e = grind arith
+
 module _ (l : Leg) (q : Place) where
   -- the reaction to the loss of the partner, the transfer state being u
   abbrev pub lost_in : Transfer → Reaction
@@ -102,16 +118,6 @@ module _ (l : Leg) (q : Place) where
     | transfer.Bound b ↦ parting l (bond_sends q b)
   ]
 
-  placed_tie : (p : Place) → when_asked l.transfer (λ _. true) false ≡ true → tie_of (when_asked l.transfer (λ o. unmoved (with_transfer l (transfer.Bound (bond.Placing p o)))) (unmoved l)).leg ≡ Some (Tie.placing p)
-  placed_tie p e = grind arith
-
-  placed_ends : (p : Place) → (when_asked l.transfer (λ o. unmoved (with_transfer l (transfer.Bound (bond.Placing p o)))) (unmoved l)).ends ≡ few.Zero
-  placed_ends p = grind arith
-
-  -- a leg that awaits a set-up has no request of its own on the transfer timer
-  awaiting_few : is_awaiting_setup l ≡ true → is_two (last_ends l named.Neither) ≡ false
-  awaiting_few e = grind arith
-
   completed_tie : (p : Place) → tie_of l ≡ Some (Tie.placing p) → tie_of (when_bound l.transfer (bond_completes l q) (unmoved l)).leg ≡ None
   completed_tie p e = grind arith
 
@@ -122,8 +128,8 @@ module _ (l : Leg) (q : Place) where
   lost_tie : (u : Transfer) (t : Tie) → transfer_tie u ≡ Some t → tie_of (lost_in u).leg ≡ None
   lost_tie u t e = grind arith
 
-  lost_zero : (u : Transfer) (t : Tie) → transfer_tie u ≡ Some t → tie_ends (Some (returned t q)) ≡ false → (lost_in u).ends ≡ few.Zero
-  lost_zero u t e f = grind arith
+  lost_zero : (u : Transfer) (t : Tie) (p : Place) → transfer_tie u ≡ Some (returned t p) → tie_ends (Some t) ≡ false → (lost_in u).ends ≡ few.Zero
+  lost_zero u t p e f = grind arith
 
   -- a leg that calls has no hold request, so it names one end at most
   lost_few : (u : Transfer) → Sound l → l.transfer ≡ u → is_two (lost_in u).ends ≡ false
@@ -136,10 +142,6 @@ sets_none_up _ = true
 
 tied_active : (l : Leg) (t : Tie) → Sound l → tie_of l ≡ Some t → sets_none_up t ≡ true → is_active l ≡ true
 tied_active l t S e f = grind arith
-
--- a partner that names no end, seen from either side
-ends_back : (t : Tie) (p q : Place) → tie_ends (Some t) ≡ false → tie_ends (Some (returned (returned t p) q)) ≡ false
-ends_back t p q e = grind arith
 
 -- ---- both legs
 
@@ -205,17 +207,11 @@ module _ (s : State) (C : Consistent s) (p : Place) (r : Reaction) (F : Sound r.
       let B = C.partners p t e in
       two_keep (tied_to t) x B.1 (λ u f. cc) (λ u f. cc (tied_returned t p)) X J W
 
-  -- who may be told is another leg, in the state that the word is for
-  may_told : (q : Place) (w : Word) → may_tell s p q w ≡ true → (q.index ≢ p.index) × (word_fits (at q) w ≡ true)
-  may_told q w X =
-      let parts = and_parts (not (eqb q.index p.index)) (word_fits (at q) w) X in
-      (eqb-false q.index p.index (not-true (eqb q.index p.index) parts.0), parts.1)
-
   -- a leg is told that is no partner
   stranger_keeps : (q : Place) (w : Word) (x : Reaction) → ties p ≡ None → may_tell s p q w ≡ true → FineTold x → Joined p q (tie_of r.leg) (tie_of x.leg) → Whole x
       → Keeps s (record { place = p; own = r; other = also q x })
   stranger_keeps q w x e X T J W =
-      let M = may_told q w X in
+      let M = may_told s p q w X in
       let f = fits_tie (at q) w M.1 in
       two_keep q x M.0 (λ u g. cc) (λ u g. cc) T J W
 
@@ -228,19 +224,19 @@ module _ (s : State) (C : Consistent s) (p : Place) (r : Reaction) (F : Sound r.
   on_consult : (q : Place) → ties p ≡ None → tie_of r.leg ≡ Some (identifies q) → may_tell s p q (word.Consult p) ≡ true → Both q (word.Consult p)
   on_consult q e f X =
       let w : Word = word.Consult p in
-      let A = and_parts (is_active (at q)) (is_idle (at q)) (may_told q w X).1 in
+      let A = and_parts (is_active (at q)) (is_idle (at q)) (may_told s p q w X).1 in
       stranger_keeps q w _ e X (told q w A.0) (inr (record { tie = identifies q; first = f; to = refl; second = refl })) (whole_first r.ends)
 
   on_place : (q : Place) → ties p ≡ None → tie_of r.leg ≡ Some (sets_up q) → may_tell s p q (word.Place p) ≡ true → Both q (word.Place p)
   on_place q e f X =
       let w : Word = word.Place p in
       stranger_keeps q w _ e X (told q w tt)
-      (inr (record { tie = sets_up q; first = f; to = refl; second = placed_tie (at q) q p (may_told q w X).1 }))
-      (rw (placed_ends (at q) q p) (whole_first r.ends))
+      (inr (record { tie = sets_up q; first = f; to = refl; second = placed_tie (at q) p (may_told s p q w X).1 }))
+      (rw (placed_ends (at q) p) (whole_first r.ends))
 
   on_met : (q : Place) → ties p ≡ None → tie_of r.leg ≡ None → may_tell s p q word.Met ≡ true → is_two r.ends ≡ false → Both q word.Met
   on_met q e f X w =
-      stranger_keeps q word.Met _ e X (told q word.Met tt) (inl (f, refl)) (whole_both r.ends _ w (awaiting_few (at q) q (may_told q word.Met X).1))
+      stranger_keeps q word.Met _ e X (told q word.Met tt) (inl (f, refl)) (whole_both r.ends _ w (awaiting_few (at q) (may_told s p q word.Met X).1))
 
   -- the partner goes back to idle
   on_parting : (t : Tie) (m : Option Message) → ties p ≡ Some t → tie_of r.leg ≡ None → sets_none_up (returned t p) ≡ true → LawfulIf m → Keeps s (record { place = p; own = r; other = also (tied_to t) (parting (at (tied_to t)) m) })
@@ -260,7 +256,7 @@ module _ (s : State) (C : Consistent s) (p : Place) (r : Reaction) (F : Sound r.
       partner_keeps t _ e (told q word.Lost tt) (inl (f, lost_tie (at q) q u (returned t p) m))
       (elim (cases_Bool (tie_ends (Some t))) [
         | inl b ↦ whole_both r.ends _ (w b) (lost_few (at q) q u (C.sound q) refl)
-        | inr b ↦ rw (lost_zero (at q) q u (returned t p) m (ends_back t p q b)) (whole_first r.ends)
+        | inr b ↦ rw (lost_zero (at q) q u t p m b) (whole_first r.ends)
       ])
 
   -- the identity is handed on: the primary asks its far end, if a number is left
@@ -286,7 +282,7 @@ module _ (s : State) (C : Consistent s) (p : Place) (r : Reaction) (F : Sound r.
   by_tells _ _ _ e f (completes q) w = on_complete q e f (w refl)
   by_tells _ _ _ e f (loses t) w = on_lost t e f w
 
-pub planned_keeps : (s : State) → Consistent s → (p : Place) (r : Reaction) → Fine (may_tell s p) p (leg_at s p) r → KeepsIf s (planned s p r)
+planned_keeps : (s : State) → Consistent s → (p : Place) (r : Reaction) → Fine (may_tell s p) p (leg_at s p) r → KeepsIf s (planned s p r)
 planned_keeps s C p r F = by_tells s C p r F.sound F.lawful (tie_of (leg_at s p)) r.tell (tie_of r.leg) refl refl F.tells F.few
 
 pub reacting_keeps : (s : State) → Consistent s → (p : Place) (d : Result Reaction Refusal) → FineIf (may_tell s p) p (leg_at s p) d → KeepsIf s (reacting s p d)

@@ -30,7 +30,7 @@ module _ (Other : Place → Word → Bool) (at : Place) where
   pub clearing_fine : (l : Leg) → FineIf Other at l (clearing l at)
   clearing_fine l = by_test (FineIf Other at l) (in_use l) _ _ (λ _. lost_fine named.Neither (release_lawful at)) (λ _. tt)
 
-  pub numbered_fine : (l : Leg) (next : Option ℕ) (f : ℕ → Reaction) → NextInRange next → ((n : ℕ) → InWord n → Fine Other at l (f n)) → FineIf Other at l (numbered next f)
+  numbered_fine : (l : Leg) (next : Option ℕ) (f : ℕ → Reaction) → NextInRange next → ((n : ℕ) → InWord n → Fine Other at l (f n)) → FineIf Other at l (numbered next f)
   numbered_fine l None f N g = tt
   numbered_fine l (Some n) f N g = g n N
 
@@ -72,7 +72,7 @@ module _ (Other : Place → Word → Bool) (at : Place) where
       (λ n M. fine (active q t _ None Q T (holds (holder.RetrieveRequested n))) (request_lawful at refl M refl refl) (keeps _) refl)
   retrieving_fine next _ N = tt
 
-  pub transfer_timed_out_fine : {l : Leg} → Sound l → Fine Other at l (transfer_timed_out l at)
+  transfer_timed_out_fine : {l : Leg} → Sound l → Fine Other at l (transfer_timed_out l at)
   transfer_timed_out_fine (calling q n p Q) = leaving_fine (named.Transfer cause.Timeout) (release_lawful at) (loses (Tie.sets_up p)) refl
   transfer_timed_out_fine (active q _ h d Q (identify n p) H) =
       fine (active q _ h d Q idle H) (request_lawful at refl refl refl refl) (parts p) refl
@@ -80,7 +80,7 @@ module _ (Other : Place → Word → Bool) (at : Place) where
   transfer_timed_out_fine (active q _ h d Q setup H) = fine (active q _ h d Q idle H) tt (keeps None) refl
   transfer_timed_out_fine S = expired_fine slot.Transfer S
 
-  pub hold_timed_out_fine : {l : Leg} → Sound l → Fine Other at l (hold_timed_out l at)
+  hold_timed_out_fine : {l : Leg} → Sound l → Fine Other at l (hold_timed_out l at)
   hold_timed_out_fine (active q t _ _ Q T (holds (holder.RemoteRequested n))) = fine (active q t _ None Q T (holds holder.Idle)) tt (keeps _) refl
   hold_timed_out_fine (active q t _ _ Q T (holds (holder.RetrieveRequested n))) = lost_fine (named.Hold cause.Timeout) (release_lawful at)
   hold_timed_out_fine S = expired_fine slot.Hold S

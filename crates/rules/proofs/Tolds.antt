@@ -14,7 +14,6 @@ use Rattle.leg.specs.declared.reaction.Word.TheVariants as word
 use Rattle.leg.specs.Views.{is_active, with_transfer, when_asked, when_bound}
 use Rattle.machine.specs.Messages.{notice_on}
 use Rattle.rules.specs.Sound.{InWord, InIdentity, NextInRange, OwedInRange, Sound, free, calling, active, idle, identify, initiate, asked, bound, SoundBond, LawfulIf}
-use Rattle.machine.specs.declared.event.Event.TheVariants as event
 use Rattle.rules.specs.Events.{FineTold, FineToldIf}
 use Rattle.rules.proofs.Sends.{release_lawful, request_lawful, result_lawful, error_lawful}
 use Rattle.machine.specs.Told.{unmoved, parting, bond_initiates, bond_completes, bond_sends, partner_lost}
