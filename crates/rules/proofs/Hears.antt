@@ -62,9 +62,11 @@ setup_told : (m : Message) → m.carrier ≡ carrier.Setup → Lawful m → Told
 setup_told m e L = let only = only_setup m.kind m.operation (rw e at L.standing) in subst (λ (k : Kind). Told m k operation.CallTransferSetup) only.0 (told_by m operation.CallTransferSetup only.1 L)
 
 module _ {Other : Place → Word → Bool} {at : Place} where
+  -- whichever of two reactions it is
   either_fine : {l : Leg} (b : Bool) (x y : Reaction) → Fine Other at l x → Fine Other at l y → Fine Other at l (cond b x y)
   either_fine {l = l} b x y F G = by_test (Fine Other at l) b x y (λ _. F) (λ _. G)
 
+  -- an invoke, by operation: where the record fits it, and where it does not
   invoked_fine : {l : Leg} (own : ℕ) (o : Operation) (m : Message) → Sound l → InWord own → Told m kind.Invoke o → Fine Other at l (invoked l at own o m)
   invoked_fine own operation.CallTransferIdentify m (active q _ h d Q idle H) W M = fine (active q _ h d Q setup H) (identity_lawful at M.number W) (keeps None) refl
   invoked_fine own operation.CallTransferIdentify m S W M = acting_fine S (error_lawful at refl M.number refl refl) refl
@@ -81,7 +83,7 @@ module _ {Other : Place → Word → Bool} {at : Place} where
   invoked_fine own operation.RemoteRetrieve m S W M = acting_fine S (error_lawful at refl M.number refl refl) refl
   invoked_fine own _ m S W M = strayed_fine S
 
-  -- ---- replies, which bring the number of a request
+  -- ---- replies, which bring the number of a request or are stray
 
   -- a hold request that ends leaves the holder state h
   hold_reply_fine : {l : Leg} (m : Message) (h : Holder) (c : Cause) → Sound l
