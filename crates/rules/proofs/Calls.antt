@@ -1,6 +1,6 @@
 -- Each call's plan keeps a state consistent.
 use Rattle.std.proofs.Common.{arith, ◌≢◌, ◌≡◌, ℕ, ◌/◌, Bool, true, false, ◌&&◌, eqb, leb, List, Some, None, Ok, Err, Option, Result, refl, ap}
-use Rattle.std.proofs.lemmas.Bool.{and_parts, and_from, le-leb, ne_eqb, not_from_false}
+use Rattle.std.proofs.lemmas.Bool.Decides.{nat_tests}
 use Rattle.message.specs.declared.codes.Carrier.{Carrier}
 use Rattle.message.specs.declared.codes.Carrier.TheVariants as carrier
 use Rattle.message.specs.declared.record.Message.{Message}
@@ -23,15 +23,14 @@ use Rattle.machine.specs.declared.event.Event.{Event}
 use Rattle.machine.specs.declared.event.Event.TheVariants as event
 use Rattle.machine.specs.Reacts.{reacts}
 use Rattle.rules.specs.Events.{Ready}
-use Rattle.rules.proofs.Cases.{by_test, by_asked}
+use Rattle.rules.proofs.Cases.{by_test, by_option, by_asked}
 use Rattle.rules.proofs.Tolds.{stays_sound, asked_in}
 use Rattle.timers.specs.declared.meaning.Due.{Due}
 use Rattle.rules.specs.declared.plan.Plan.{Plan}
 use Rattle.rules.specs.States.{State, leg_at}
 use Rattle.rules.specs.Plans.{reacting}
-use Rattle.rules.specs.Steps.{at_place, consult_at, place_at, if_awaiting, awaiting, heard_at, slot_of, timeout_plan, plan_in, plan_for}
+use Rattle.rules.specs.Steps.{at_place, consult_at, place_at, awaiting, heard_at, slot_of, timeout_plan, plan_for}
 use Rattle.rules.specs.Consistent.{Consistent}
-use Rattle.rules.proofs.Tables.{place_same}
 use Rattle.rules.specs.declared.call.Call.{Call}
 use Rattle.rules.specs.declared.call.Call.TheVariants as call
 use Rattle.rules.specs.Firsts.{due_by}
@@ -43,18 +42,17 @@ free_awaits l S e = grind arith
 
 module _ (s : State) (C : Consistent s) where
   own_fits : InWord s.settings.own
-  own_fits = and_from _ _ (le-leb 1 s.settings.own s.settings.least) (le-leb s.settings.own 65535 s.settings.most)
+  own_fits = grind (arith, nat_tests, s.settings.least, s.settings.most)
 
   react : (p : Place) (e : Event) → Ready (may_tell s p) p (leg_at s p) e → KeepsIf s (reacting s p (reacts (leg_at s p) p s.settings.own s.next e))
   react p e R = reacting_keeps s C p _ (stays_sound (may_tell s p) (leg_at s p) p s.settings.own s.next e (C.sound p) own_fits C.next R)
 
   by_place : (o : Option Place) (f : Place → Result Plan Refusal) → ((p : Place) → KeepsIf s (f p)) → KeepsIf s (elim o [ None ↦ Err refusal.NoSuchLeg | Some p ↦ f p ])
-  by_place None f g = tt
-  by_place (Some p) f g = g p
+  by_place o f g = by_option (KeepsIf s) o _ f tt g
 
   -- two legs that differ in what they are, differ; and the one may be told a word that fits it
   may_tell_other : (p q : Place) (w : Word) (f : Leg → Bool) → f (leg_at s q) ≢ f (leg_at s p) → word_fits (leg_at s q) w ≡ true → may_tell s p q w ≡ true
-  may_tell_other p q w f ne fits = and_from _ _ (not_from_false _ (ne_eqb q.index p.index (λ e. ne (ap (λ (x : Place). f (leg_at s x)) (place_same q p e))))) fits
+  may_tell_other p q w f ne fits = grind (arith, nat_tests)
 
   consult_at_lem : (p q : Place) → KeepsIf s (consult_at s p q)
   consult_at_lem p q =
@@ -63,10 +61,7 @@ module _ (s : State) (C : Consistent s) where
       (λ a. by_test (KeepsIf s) (eqb p.index q.index) _ _
       (λ _. tt)
       (λ ne. by_test (KeepsIf s) (is_idle (leg_at s p) && is_idle (leg_at s q)) _ _
-      (λ i.
-      let A = and_parts (is_active (leg_at s p)) (is_active (leg_at s q)) a in
-      let I = and_parts (is_idle (leg_at s p)) (is_idle (leg_at s q)) i in
-      react q (event.Identify p) (A.1, I.1, and_from _ _ (not_from_false _ ne) (and_from _ _ A.0 I.0)))
+      (λ i. react q (event.Identify p) (grind arith))
       (λ _. tt)))
       (λ _. tt))
       (λ _. tt)
@@ -82,9 +77,6 @@ module _ (s : State) (C : Consistent s) where
       (λ _. tt))
 
   -- the leg that a set-up is met by awaits one
-  if_awaiting_lem : (o : Option Place) (q : Place) → if_awaiting s o ≡ Some q → is_awaiting_setup (leg_at s q) ≡ true
-  if_awaiting_lem o q e = grind arith
-
   awaits : (i : ℕ) (q : Place) → awaiting s i ≡ Some q → is_awaiting_setup (leg_at s q) ≡ true
   awaits i q e = grind arith
 
@@ -111,10 +103,6 @@ module _ (s : State) (C : Consistent s) where
   pub timeout_keeps : (d : Due) → KeepsIf s (timeout_plan s d)
   timeout_keeps d = by_place (place_of (d.key / 2)) _ (λ p. react p (event.RunOut (slot_of d.key)) tt)
 
-  tick_keeps : (o : Option Due) → KeepsAny s (elim o [ None ↦ None | Some d ↦ plan_in (timeout_plan s d) ])
-  tick_keeps None = tt
-  tick_keeps (Some d) = timeout_keeps d
-
   pub call_keeps : (c : Call) → KeepsAny s (plan_for s c)
   call_keeps (call.Open leg peer) = by_place (place_of leg) _ (λ p. by_test (KeepsIf s) (leb 1 peer && leb peer 65535) _ _ (λ e. react p (event.Open peer) e) (λ _. tt))
   call_keeps (call.Clear leg) = by_place (place_of leg) _ (λ p. react p event.Clear tt)
@@ -126,5 +114,5 @@ module _ (s : State) (C : Consistent s) where
   call_keeps (call.Hold leg k) = by_place (place_of leg) _ (λ p. react p (event.Hold k) tt)
   call_keeps (call.Retrieve leg) = by_place (place_of leg) _ (λ p. react p event.Retrieve tt)
   call_keeps (call.Heard bytes) = heard_keeps bytes.now (verdict bytes.now) refl
-  call_keeps (call.Tick t) = tick_keeps (due_by t s.deadlines)
+  call_keeps (call.Tick t) = by_option (KeepsAny s) (due_by t s.deadlines) _ _ tt timeout_keeps
   call_keeps _ = tt

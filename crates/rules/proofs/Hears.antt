@@ -1,14 +1,12 @@
 -- Whatever is heard leaves a leg sound.
-use Rattle.std.proofs.Common.{◌≡◌, ℕ, Bool, true, false, cond, ◌&&◌, ◌||◌, eqb, Some, None, Option, sym, refl, ap, subst, arith}
+use Rattle.std.proofs.Common.{◌≡◌, ℕ, Bool, true, false, cond, ◌&&◌, ◌||◌, eqb, Some, None, Option, refl, subst, arith}
 use Rattle.std.proofs.lemmas.Bool.Decides.{nat_tests}
-use Rattle.std.proofs.lemmas.Bool.{and_parts}
 use Rattle.message.specs.declared.codes.Carrier.{Carrier}
 use Rattle.message.specs.declared.codes.Carrier.TheVariants as carrier
 use Rattle.message.specs.declared.codes.Kind.{Kind}
 use Rattle.message.specs.declared.codes.Kind.TheVariants as kind
 use Rattle.message.specs.declared.codes.Operation.{Operation}
 use Rattle.message.specs.declared.codes.Operation.TheVariants as operation
-use Rattle.message.specs.declared.codes.ErrorCode.{ErrorCode}
 use Rattle.message.specs.declared.codes.ErrorCode.TheVariants as error
 use Rattle.message.specs.declared.record.Message.{Message}
 use Rattle.message.specs.Format.{Lawful}
@@ -20,8 +18,6 @@ use Rattle.leg.specs.declared.codes.Cause.{Cause}
 use Rattle.leg.specs.declared.codes.Cause.TheVariants as cause
 use Rattle.leg.specs.declared.record.Phase.{Phase}
 use Rattle.leg.specs.declared.record.Phase.TheVariants as phase
-use Rattle.leg.specs.declared.record.Bond.TheVariants as bond
-use Rattle.leg.specs.declared.record.Transfer.{Transfer}
 use Rattle.leg.specs.declared.record.Transfer.TheVariants as transfer
 use Rattle.leg.specs.declared.record.Holder.{Holder}
 use Rattle.leg.specs.declared.record.Holder.TheVariants as holder
@@ -29,22 +25,21 @@ use Rattle.leg.specs.declared.record.HoldKind.TheVariants as hold
 use Rattle.leg.specs.declared.record.Leg.{Leg}
 use Rattle.leg.specs.declared.reaction.TimerChange.TheVariants as change
 use Rattle.leg.specs.declared.reaction.UpToTwo.TheVariants as few
-use Rattle.leg.specs.declared.reaction.Tell.{Tell}
 use Rattle.leg.specs.Tells.{tell_leg}
 use Rattle.leg.specs.declared.reaction.Word.{Word}
 use Rattle.leg.specs.declared.reaction.Word.TheVariants as word
 use Rattle.leg.specs.declared.reaction.Named.TheVariants as named
 use Rattle.leg.specs.declared.reaction.Reaction.{Reaction}
-use Rattle.leg.specs.Views.{free_leg, holds_none, in_use, is_active, is_alerting, is_idle, is_awaiting_setup, is_held_near, is_held_remote, is_unheld, with_phase, with_holder, when_hold_requested, active_leg}
+use Rattle.leg.specs.Views.{free_leg, in_use, is_alerting, with_phase, with_holder, when_hold_requested, active_leg}
 use Rattle.machine.specs.Messages.{result_on, error_on}
-use Rattle.machine.specs.Reactions.{reaction, acting, strayed, settling, hold_settling}
-use Rattle.rules.specs.Sound.{end_follows, InWord, InIdentity, leg, Sound, free, calling, ringing, alerting, active, idle, setup, asked, bound, SoundBond, holds, Tie, transfer_tie, tie_of, Tells, keeps, meets, hands, parts, completes, loses, LawfulIf}
+use Rattle.machine.specs.Reactions.{reaction, acting, strayed, hold_settling}
+use Rattle.rules.specs.Sound.{InWord, InIdentity, OwedInRange, leg, Sound, free, calling, ringing, alerting, active, idle, identify, initiate, setup, asked, bound, SoundBond, holds, is_held, Tie, keeps, meets, hands, parts, completes, loses}
 use Rattle.rules.specs.Events.{Fine, FineIf}
 use Rattle.rules.proofs.Sends.{release_lawful, result_lawful, identity_lawful, error_lawful}
-use Rattle.rules.proofs.Cases.{by_test, by_identify, by_initiate, by_response, by_hold, by_retrieve}
-use Rattle.rules.proofs.Shapes.{with_transfer_lem, with_holder_again, with_held_idle, acting_fine, strayed_fine, idle_tie, leaving_fine, lost_fine, part_tells, abandon_tells, part_few, tied, unawaited_fine, held_here_lem, waiting_active}
-use Rattle.machine.specs.Invokes.{failed, owed_for, invoked, set_up}
-use Rattle.machine.specs.Replies.{resulted, faulted, connected_leg, setup_result, alerted, connected, lost, released, served, heard_on}
+use Rattle.rules.proofs.Cases.{by_test}
+use Rattle.rules.proofs.Shapes.{fine, acting_fine, strayed_fine, leaving_fine, lost_fine, part_tells, abandon_tells, part_few}
+use Rattle.machine.specs.Invokes.{owed_for, invoked, set_up}
+use Rattle.machine.specs.Replies.{resulted, faulted, setup_result, alerted, connected, lost, released, served, heard_on}
 
 -- what is known of the numbers of a lawful message with this operation
 pub record Told (m : Message) (k : Kind) (o : Operation) : Type 0 where
@@ -54,15 +49,6 @@ pub record Told (m : Message) (k : Kind) (o : Operation) : Type 0 where
 
 identity_any : (i : ℕ) → inside (span 1 9999) i ≡ true → InIdentity i
 identity_any i e = grind (arith, nat_tests)
-
--- a phase in which a placed leg goes on
-pub data GoesOn : Phase → Type 0 where
-  alerts : GoesOn phase.Alerting
-  connects : GoesOn phase.Active
-
-goes_on : (q : ℕ) (p : Phase) → InWord q → GoesOn p → Sound (leg p q transfer.Idle holder.Idle None)
-goes_on q _ Q alerts = alerting q Q
-goes_on q _ Q connects = active q _ _ _ Q idle (holds holder.Idle)
 
 -- the numbers of a lawful message, its operation being known
 told_by : (m : Message) (o : Operation) → m.operation ≡ Some o → Lawful m → Told m m.kind o
@@ -76,130 +62,94 @@ setup_told : (m : Message) → m.carrier ≡ carrier.Setup → Lawful m → Told
 setup_told m e L = let only = only_setup m.kind m.operation (rw e at L.standing) in subst (λ (k : Kind). Told m k operation.CallTransferSetup) only.0 (told_by m operation.CallTransferSetup only.1 L)
 
 module _ {Other : Place → Word → Bool} {at : Place} where
-  failed_fine : {l : Leg} {o : Operation} {n : ℕ} {e : ErrorCode} → Sound l → Lawful (error_on at carrier.Facility o n e) → Fine Other at l (failed l at o n e)
-  failed_fine S L = acting_fine S L refl
+  -- whichever of two reactions it is
+  either_fine : {l : Leg} (b : Bool) (x y : Reaction) → Fine Other at l x → Fine Other at l y → Fine Other at l (cond b x y)
+  either_fine {l = l} b x y F G = by_test (Fine Other at l) b x y (λ _. F) (λ _. G)
 
-  pub invoked_fine : (l : Leg) (own : ℕ) (o : Operation) (m : Message) → Sound l → InWord own → Told m kind.Invoke o → Fine Other at l (invoked l at own o m)
-  invoked_fine l own operation.CallTransferIdentify m S W M =
-      by_test (Fine Other at l) (is_active l && is_idle l) _ _
-      (λ e. record {
-        sound = with_transfer_lem S (and_parts _ _ e).0 setup;
-        lawful = identity_lawful at M.number W;
-        tells = rw (idle_tie l (and_parts (is_active l) (is_idle l) e).1) (keeps None);
-        few = λ _. refl;
-      })
-      (λ _. failed_fine S (error_lawful at refl M.number refl refl))
-  invoked_fine l own operation.CallTransferAbandon m S W M = by_test (Fine Other at l) (is_awaiting_setup l) _ _ (λ e. unawaited_fine note.Done S e) (λ _. strayed_fine S)
-  invoked_fine l own operation.CallTransferInitiate m S W M =
-      by_test (Fine Other at l) (is_active l && is_idle l) _ _
-      (λ e. acting_fine (with_transfer_lem S (and_parts _ _ e).0 (asked (owed_for m) (record { number = M.number; identity = M.identity; address = M.address }))) tt (sym (idle_tie l (and_parts _ _ e).1)))
-      (λ _. failed_fine S (error_lawful at refl M.number refl refl))
-  invoked_fine l own operation.CallTransferSetup m S W M = strayed_fine S
-  invoked_fine l own operation.HoldNotific m S W M =
-      by_test (Fine Other at l) (is_active l && is_unheld l) _ _ (λ e. acting_fine (held_here_lem (Some hold.Near) S e) tt refl) (λ _. strayed_fine S)
-  invoked_fine l own operation.RetrieveNotific m S W M =
-      by_test (Fine Other at l) (is_held_near l) _ _ (λ _. acting_fine (with_held_idle S) tt refl) (λ _. strayed_fine S)
-  invoked_fine l own operation.RemoteHold m S W M =
-      by_test (Fine Other at l) (is_active l && is_unheld l) _ _
-      (λ e. acting_fine (held_here_lem (Some hold.Remote) S e) (result_lawful at refl M.number refl refl) refl)
-      (λ _. failed_fine S (error_lawful at refl M.number refl refl))
-  invoked_fine l own operation.RemoteRetrieve m S W M =
-      by_test (Fine Other at l) (is_held_remote l) _ _
-      (λ _. acting_fine (with_held_idle S) (result_lawful at refl M.number refl refl) refl)
-      (λ _. failed_fine S (error_lawful at refl M.number refl refl))
+  -- an invoke, by operation: where the record fits it, and where it does not
+  invoked_fine : {l : Leg} (own : ℕ) (o : Operation) (m : Message) → Sound l → InWord own → Told m kind.Invoke o → Fine Other at l (invoked l at own o m)
+  invoked_fine own operation.CallTransferIdentify m (active q _ h d Q idle H) W M = fine (active q _ h d Q setup H) (identity_lawful at M.number W) (keeps None) refl
+  invoked_fine own operation.CallTransferIdentify m S W M = acting_fine S (error_lawful at refl M.number refl refl) refl
+  invoked_fine own operation.CallTransferAbandon m (active q _ h d Q setup H) W M = fine (active q _ h d Q idle H) tt (keeps None) refl
+  invoked_fine own operation.CallTransferInitiate m (active q _ h d Q idle H) W M =
+      acting_fine (active q _ h d Q (asked (owed_for m) (record { number = M.number; identity = M.identity; address = M.address })) H) tt refl
+  invoked_fine own operation.CallTransferInitiate m S W M = acting_fine S (error_lawful at refl M.number refl refl) refl
+  invoked_fine own operation.HoldNotific m (active q t holder.Idle None Q T H) W M = acting_fine (active q t _ (Some hold.Near) Q T (is_held _)) tt refl
+  invoked_fine own operation.RetrieveNotific m (active q t h (Some hold.Near) Q T H) W M = acting_fine (active q t h None Q T (holds h)) tt refl
+  invoked_fine own operation.RemoteHold m (active q t holder.Idle None Q T H) W M =
+      acting_fine (active q t _ (Some hold.Remote) Q T (is_held _)) (result_lawful at refl M.number refl refl) refl
+  invoked_fine own operation.RemoteHold m S W M = acting_fine S (error_lawful at refl M.number refl refl) refl
+  invoked_fine own operation.RemoteRetrieve m (active q t h (Some hold.Remote) Q T H) W M = acting_fine (active q t h None Q T (holds h)) (result_lawful at refl M.number refl refl) refl
+  invoked_fine own operation.RemoteRetrieve m S W M = acting_fine S (error_lawful at refl M.number refl refl) refl
+  invoked_fine own _ m S W M = strayed_fine S
 
-  -- ---- replies
+  -- ---- replies, which bring the number of a request or are stray
 
-  settling_fine : {l k : Leg} {m : Option Message} {n : ℕ} {c : Cause} {w : Option Tell} → Sound k → LawfulIf m → Tells Other at (tie_of l) w (tie_of k) → Fine Other at l (settling k m n c w)
-  settling_fine S L T = record { sound = S; lawful = L; tells = T; few = λ _. refl }
-
-  -- a hold request that ends leaves another holder state
-  hold_settling_fine : {l : Leg} {n : ℕ} {c : Cause} (h : Holder) → Sound l → holds_none l ≡ false → Fine Other at l (hold_settling (with_holder l h) n c)
-  hold_settling_fine h S e = record { sound = with_holder_again h S e; lawful = tt; tells = keeps _; few = λ _. refl }
-
-  hold_reply_fine : (l : Leg) (m : Message) (h : Holder) (c : Cause) → Sound l
+  -- a hold request that ends leaves the holder state h
+  hold_reply_fine : {l : Leg} (m : Message) (h : Holder) (c : Cause) → Sound l
       → Fine Other at l (when_hold_requested l.holder (λ n. cond (eqb n m.number) (hold_settling (with_holder l h) n c) (strayed l)) (strayed l))
-  hold_reply_fine l m h c S = by_hold (Fine Other at l) l.holder m.number _ _ (λ n e. hold_settling_fine h S (rw (e, holds_none) refl)) (strayed_fine S)
+  hold_reply_fine m h c (active q t _ _ Q T (holds (holder.RemoteRequested n))) =
+      either_fine _ _ _ (fine (active q t h None Q T (holds h)) tt (keeps _) refl) (strayed_fine (active q t _ None Q T (holds _)))
+  hold_reply_fine m h c S = strayed_fine S
 
-  pub resulted_fine : (l : Leg) (o : Operation) (m : Message) → Sound l → Told m kind.Result o → Fine Other at l (resulted l at o m)
-  resulted_fine l operation.CallTransferIdentify m S M =
-      by_identify (Fine Other at l) l.transfer m.number _ _
-      (λ n p e. settling_fine (with_transfer_lem S (waiting_active S e refl) (bound (bond.Consulted p) (SoundBond.consulted p))) tt
-      (tied e (hands p m.identity m.address (identity_any m.identity M.identity) M.address)))
-      (strayed_fine S)
-  resulted_fine l operation.CallTransferInitiate m S M =
-      by_initiate (Fine Other at l) l.transfer m.number _ _
-      (λ n s e. leaving_fine (Some (named.Transfer cause.Result)) (release_lawful at) (tied e (part_tells s)) (part_few (tie_of l) s))
-      (strayed_fine S)
-  resulted_fine l operation.RemoteHold m S M = hold_reply_fine l m holder.RemoteHolding cause.Result S
-  resulted_fine l operation.RemoteRetrieve m S M =
-      by_retrieve (Fine Other at l) l.holder m.number _ _ (λ n e. hold_settling_fine holder.Idle S (rw (e, holds_none) refl)) (strayed_fine S)
-  resulted_fine l _ m S M = strayed_fine S
+  resulted_fine : {l : Leg} (o : Operation) (m : Message) → Sound l → Told m kind.Result o → Fine Other at l (resulted l at o m)
+  resulted_fine operation.CallTransferIdentify m (active q _ h d Q (identify n p) H) M =
+      either_fine _ _ _ (fine (active q _ h d Q (bound _ (SoundBond.consulted p)) H) tt (hands p _ _ (identity_any m.identity M.identity) M.address) refl) (strayed_fine (active q _ h d Q (identify n p) H))
+  resulted_fine operation.CallTransferInitiate m (active q _ h d Q (initiate n s) H) M =
+      either_fine _ _ _ (leaving_fine (Some (named.Transfer cause.Result)) (release_lawful at) (part_tells s) (part_few _ s)) (strayed_fine (active q _ h d Q (initiate n s) H))
+  resulted_fine operation.RemoteHold m S M = hold_reply_fine m holder.RemoteHolding cause.Result S
+  resulted_fine operation.RemoteRetrieve m (active q t _ _ Q T (holds (holder.RetrieveRequested n))) M =
+      either_fine _ _ _ (fine (active q t _ None Q T (holds holder.Idle)) tt (keeps _) refl) (strayed_fine (active q t _ None Q T (holds _)))
+  resulted_fine _ m S M = strayed_fine S
 
-  pub faulted_fine : (l : Leg) (o : Operation) (m : Message) → Sound l → Fine Other at l (faulted l at o m)
-  faulted_fine l operation.CallTransferIdentify m S =
-      by_identify (Fine Other at l) l.transfer m.number _ _
-      (λ n p e. settling_fine (with_transfer_lem S (waiting_active S e refl) idle) tt (tied e (parts p)))
-      (strayed_fine S)
-  faulted_fine l operation.CallTransferInitiate m S =
-      by_initiate (Fine Other at l) l.transfer m.number _ _
-      (λ n s e. settling_fine (with_transfer_lem S (waiting_active S e refl) idle) tt (tied e (abandon_tells s)))
-      (strayed_fine S)
-  faulted_fine l operation.RemoteHold m S = hold_reply_fine l m holder.Idle cause.Fault S
-  faulted_fine l operation.RemoteRetrieve m S =
-      by_retrieve (Fine Other at l) l.holder m.number _ _ (λ n e. lost_fine (Some (named.Hold cause.Fault)) (release_lawful at)) (strayed_fine S)
-  faulted_fine l _ m S = strayed_fine S
+  faulted_fine : {l : Leg} (o : Operation) (m : Message) → Sound l → Fine Other at l (faulted l at o m)
+  faulted_fine operation.CallTransferIdentify m (active q _ h d Q (identify n p) H) =
+      either_fine _ _ _ (fine (active q _ h d Q idle H) tt (parts p) refl) (strayed_fine (active q _ h d Q (identify n p) H))
+  faulted_fine operation.CallTransferInitiate m (active q _ h d Q (initiate n s) H) =
+      either_fine _ _ _ (fine (active q _ h d Q idle H) tt (abandon_tells s) refl) (strayed_fine (active q _ h d Q (initiate n s) H))
+  faulted_fine operation.RemoteHold m S = hold_reply_fine m holder.Idle cause.Fault S
+  faulted_fine operation.RemoteRetrieve m (active q t _ _ Q T (holds (holder.RetrieveRequested n))) =
+      either_fine _ _ _ (lost_fine (Some (named.Hold cause.Fault)) (release_lawful at)) (strayed_fine (active q t _ None Q T (holds _)))
+  faulted_fine _ m S = strayed_fine S
 
-  answered : {l : Leg} (p : Phase) → Sound l → GoesOn p → (n : ℕ) (q : Place) → l.transfer ≡ transfer.AwaitSetupResponse n q → Fine Other at l (settling (connected_leg l p) None n cause.Result (tell_leg q word.Complete))
-  answered p (calling x k r X) G n q e = settling_fine (goes_on x p X G) tt (tied e (completes q))
-  answered p (active x _ h d X idle H) G n q e = cc
-  answered p _ G n q e = cc
+  -- a placed leg goes on in the phase p
+  setup_result_fine : {l : Leg} {x : Reaction} (m : Message) (p : Phase) → Sound l → ((q : ℕ) → InWord q → Sound (leg p q transfer.Idle holder.Idle None)) → Fine Other at l x → Fine Other at l (setup_result l m p x)
+  setup_result_fine m p (calling q n t Q) G F = either_fine _ _ _ (either_fine _ _ _ (fine (G q Q) tt (completes t) refl) F) F
+  setup_result_fine m p (active q _ h d Q idle H) G F = either_fine _ _ _ F F
+  setup_result_fine m p _ G F = either_fine _ _ _ F F
 
-  pub setup_result_fine : {l : Leg} {x : Reaction} (m : Message) (p : Phase) → Sound l → GoesOn p → Fine Other at l x → Fine Other at l (setup_result l m p x)
-  setup_result_fine {l = l} m p S G F =
-      by_test (Fine Other at l) (of_kind m.kind kind.Result && names m.operation operation.CallTransferSetup) _ _
-      (λ _. by_response (Fine Other at l) l.transfer m.number _ _ (λ n q e. answered p S G n q e) F)
-      (λ _. F)
-
-  picked_up : {l : Leg} → Sound l → is_alerting l ≡ true → Fine Other at l (acting (with_phase l phase.Active) None note.Done)
-  picked_up (alerting q Q) e = acting_fine (active q _ _ _ Q idle (holds _)) tt refl
-  picked_up _ e = cc
-
-  alerted_fine : (l : Leg) (m : Message) → Sound l → Fine Other at l (alerted l m)
-  alerted_fine l m S = setup_result_fine m phase.Alerting S alerts (strayed_fine S)
-
-  connected_fine : (l : Leg) (m : Message) → Sound l → Fine Other at l (connected l m)
-  connected_fine l m S = setup_result_fine m phase.Active S connects (by_test (Fine Other at l) (is_alerting l) _ _ (λ e. picked_up S e) (λ _. strayed_fine S))
+  -- any CONNECT makes an alerting leg active
+  picked_up : {l : Leg} → Sound l → Fine Other at l (cond (is_alerting l) (acting (with_phase l phase.Active) None note.Done) (strayed l))
+  picked_up (alerting q Q) = acting_fine (active q _ _ _ Q idle (holds _)) tt refl
+  picked_up S = strayed_fine S
 
   -- whatever RELEASE COMPLETE brings, the leg ends
-  released_fine : (l : Leg) (m : Message) → Fine Other at l (released l m)
-  released_fine l m =
-      by_test (Fine Other at l) (of_kind m.kind kind.Result && names m.operation operation.CallTransferInitiate) _ _
-      (λ _. by_initiate (Fine Other at l) l.transfer m.number _ _
-      (λ n s e. leaving_fine (Some (named.Transfer cause.Result)) tt (tied e (part_tells s)) (part_few (tie_of l) s))
-      gone)
-      (λ _. by_test (Fine Other at l) ((of_kind m.kind kind.Error || of_kind m.kind kind.Reject) && names m.operation operation.CallTransferSetup) _ _
-      (λ _. by_response (Fine Other at l) l.transfer m.number _ _
-      (λ n p e. leaving_fine (Some (named.Transfer cause.Fault)) tt (tied e (loses (Tie.sets_up p))) (ap (λ (t : Transfer). end_follows (transfer_tie t) (tell_leg p word.Lost)) e))
-      gone)
-      (λ _. gone))
-    where
-      gone : Fine Other at l (lost l)
-      gone = lost_fine None tt
+  gone : {l : Leg} → Fine Other at l (lost l)
+  gone = lost_fine None tt
 
-  served_fine : (l : Leg) (own : ℕ) (m : Message) (o : Operation) (k : Kind) → m.kind ≡ k → Sound l → InWord own → Told m k o
+  -- it may bring the result of an initiate or the fault of a set-up
+  released_by : {l : Leg} (m : Message) (x y : Reaction) → Fine Other at l x → Fine Other at l y
+      → Fine Other at l (cond (of_kind m.kind kind.Result && names m.operation operation.CallTransferInitiate) x (cond ((of_kind m.kind kind.Error || of_kind m.kind kind.Reject) && names m.operation operation.CallTransferSetup) y (lost l)))
+  released_by m x y F G = either_fine _ x _ F (either_fine _ y _ G gone)
+
+  released_fine : {l : Leg} (m : Message) → Sound l → Fine Other at l (released l m)
+  released_fine m (active q _ h d Q (initiate n s) H) = released_by m _ _ (either_fine (eqb n m.number) _ _ (leaving_fine (Some (named.Transfer cause.Result)) tt (part_tells s) (part_few _ s)) gone) gone
+  released_fine m (calling q n p Q) = released_by m _ _ gone (either_fine (eqb n m.number) _ _ (leaving_fine (Some (named.Transfer cause.Fault)) tt (loses (Tie.sets_up p)) refl) gone)
+  released_fine m _ = released_by m _ _ gone gone
+
+  served_fine : {l : Leg} (own : ℕ) (m : Message) (o : Operation) (k : Kind) → Sound l → InWord own → Told m k o
       → Fine Other at l (elim k [ kind.Nothing ↦ strayed l | kind.Invoke ↦ invoked l at own o m | kind.Result ↦ resulted l at o m | kind.Error ↦ faulted l at o m | kind.Reject ↦ faulted l at o m ])
-  served_fine l own m o kind.Nothing e S W M = strayed_fine S
-  served_fine l own m o kind.Invoke e S W M = invoked_fine l own o m S W M
-  served_fine l own m o kind.Result e S W M = resulted_fine l o m S M
-  served_fine l own m o _ e S W M = faulted_fine l o m S
+  served_fine own m o kind.Nothing S W M = strayed_fine S
+  served_fine own m o kind.Invoke S W M = invoked_fine own o m S W M
+  served_fine own m o kind.Result S W M = resulted_fine o m S M
+  served_fine own m o _ S W M = faulted_fine o m S
 
-  facility_fine : (l : Leg) (own : ℕ) (m : Message) (x : Option Operation) → m.operation ≡ x → Sound l → InWord own → Lawful m
+  facility_fine : {l : Leg} (own : ℕ) (m : Message) (x : Option Operation) → m.operation ≡ x → Sound l → InWord own → Lawful m
       → Fine Other at l (elim x [ None ↦ strayed l | Some o ↦ served l at own m o ])
-  facility_fine l own m None e S W L = strayed_fine S
-  facility_fine l own m (Some o) e S W L = served_fine l own m o m.kind refl S W (told_by m o e L)
+  facility_fine own m None e S W L = strayed_fine S
+  facility_fine own m (Some o) e S W L = served_fine own m o m.kind S W (told_by m o e L)
 
-  carried_fine : (l : Leg) (own : ℕ) (m : Message) (c : Carrier) → Sound l → InWord own → Lawful m
+  carried_fine : {l : Leg} (own : ℕ) (m : Message) (c : Carrier) → Sound l → InWord own → Lawful m
       → Fine Other at l (elim c [
         | carrier.Setup ↦ strayed l
         | carrier.Alerting ↦ alerted l m
@@ -207,14 +157,14 @@ module _ {Other : Place → Word → Bool} {at : Place} where
         | carrier.Facility ↦ elim m.operation [ None ↦ strayed l | Some o ↦ served l at own m o ]
         | carrier.ReleaseComplete ↦ released l m
       ])
-  carried_fine l own m carrier.Setup S W L = strayed_fine S
-  carried_fine l own m carrier.Alerting S W L = alerted_fine l m S
-  carried_fine l own m carrier.Connect S W L = connected_fine l m S
-  carried_fine l own m carrier.Facility S W L = facility_fine l own m m.operation refl S W L
-  carried_fine l own m carrier.ReleaseComplete S W L = released_fine l m
+  carried_fine own m carrier.Setup S W L = strayed_fine S
+  carried_fine own m carrier.Alerting S W L = setup_result_fine m phase.Alerting S alerting (strayed_fine S)
+  carried_fine own m carrier.Connect S W L = setup_result_fine m phase.Active S (λ q Q. active q _ _ _ Q idle (holds _)) (picked_up S)
+  carried_fine own m carrier.Facility S W L = facility_fine own m m.operation refl S W L
+  carried_fine own m carrier.ReleaseComplete S W L = released_fine m S
 
   pub heard_on_fine : (l : Leg) (own : ℕ) (m : Message) → Sound l → InWord own → Lawful m → Fine Other at l (heard_on l at own m)
-  heard_on_fine l own m S W L = by_test (Fine Other at l) (in_use l) _ _ (λ _. carried_fine l own m m.carrier S W L) (λ _. strayed_fine S)
+  heard_on_fine l own m S W L = either_fine _ _ _ (carried_fine own m m.carrier S W L) (strayed_fine S)
 
   met_fine : (m : Message) (s : Option Place) → Told m kind.Invoke operation.CallTransferSetup → ((q : Place) → s ≡ Some q → (Other q word.Met ≡ true))
       → Fine Other at free_leg (elim s [
@@ -222,19 +172,12 @@ module _ {Other : Place → Word → Bool} {at : Place} where
         | Some q ↦ reaction (active_leg m.address) (Some (result_on at carrier.Connect operation.CallTransferSetup m.number)) few.Zero change.Kept change.Kept (tell_leg q word.Met) note.Done
       ])
   met_fine m None M X = acting_fine free (error_lawful at refl M.number refl refl) refl
-  met_fine m (Some q) M X =
-      record {
-        sound = active _ _ _ _ M.address idle (holds holder.Idle);
-        lawful = result_lawful at refl M.number refl refl;
-        tells = meets q (X q refl);
-        few = λ _. refl;
-      }
+  met_fine m (Some q) M X = fine (active _ _ _ _ M.address idle (holds holder.Idle)) (result_lawful at refl M.number refl refl) (meets q (X q refl)) refl
 
 pub set_up_fine : (Other : Place → Word → Bool) (at : Place) {l : Leg} (m : Message) (s : Option Place) → Sound l → m.carrier ≡ carrier.Setup → Lawful m
     → (in_use l ≡ false → (q : Place) → s ≡ Some q → (Other q word.Met ≡ true)) → FineIf Other at l (set_up l at m s)
 set_up_fine Other at m s free e L X =
     let M = setup_told m e L in
-    by_test (Fine Other at free_leg) (eqb m.identity 0) _ _
-    (λ _. acting_fine (ringing m.address (owed_for m) M.address (record { number = M.number; identity = M.identity; address = M.address })) tt refl)
-    (λ _. met_fine m s M (X refl))
+    let O : OwedInRange (owed_for m) = record { number = M.number; identity = M.identity; address = M.address } in
+    either_fine (eqb m.identity 0) _ _ (acting_fine (ringing m.address (owed_for m) M.address O) tt refl) (met_fine m s M (X refl))
 set_up_fine Other at m s _ e L X = tt

@@ -1,5 +1,5 @@
 -- Every life of a board keeps its state consistent.
-use Rattle.std.proofs.Common.{◌≡◌, ℕ, ◌+◌, ◌^◌, ◌<◌, ◌≤◌, false, ◌&&◌, ◌||◌, ltb, leb, List, [], ◌∷◌, length, Some, None, Ok, Err, Option, Result, refl, ap, ◌∙◌, arith, length-append}
+use Rattle.std.proofs.Common.{◌≡◌, ℕ, ◌^◌, ◌≤◌, false, ◌&&◌, ◌||◌, ltb, leb, List, [], ◌∷◌, length, Some, None, Ok, Err, Option, Result, refl, ap, ◌∙◌, arith, length-append}
 use lib.ListN.{get_or-replicate}
 use Rattle.std.proofs.ByRecursion.{All-append}
 use Rattle.std.proofs.lemmas.Bool.{and_parts, leb-true, ltb-false}
@@ -10,16 +10,13 @@ use Rattle.message.specs.Format.{Lawful}
 use Rattle.leg.specs.declared.place.Place.{Place}
 use Rattle.leg.specs.declared.codes.Note.TheVariants as note
 use Rattle.leg.specs.declared.codes.Refusal.{Refusal}
-use Rattle.leg.specs.declared.codes.Refusal.TheVariants as refusal
 use Rattle.leg.specs.declared.reaction.UpToTwo.TheVariants as few
 use Rattle.leg.specs.declared.record.Leg.{Leg}
 use Rattle.leg.specs.Places.{place_of}
 use Rattle.leg.specs.Views.{free_leg}
-use Rattle.leg.specs.Reactions.{up_to_two}
-use Rattle.rules.specs.Sound.{Sound, free, InWord, NextInRange, LawfulIf, tie_of}
-use Rattle.rules.proofs.Cases.{by_test}
-use Rattle.timers.specs.declared.meaning.Due.{Due}
-use Rattle.rules.specs.Answers.{Answer, did, taken, shown}
+use Rattle.rules.specs.Sound.{Sound, free, NextInRange, tie_of}
+use Rattle.rules.proofs.Cases.{by_test, by_option}
+use Rattle.rules.specs.Answers.{Answer, did, taken}
 use Rattle.rules.specs.declared.call.Call.{Call}
 use Rattle.rules.specs.declared.call.Call.TheVariants as call
 use Rattle.rules.specs.declared.plan.Told.{Told}
@@ -33,20 +30,10 @@ use Rattle.rules.specs.Runs.{runs}
 use Rattle.rules.specs.Consistent.{Consistent}
 use Rattle.rules.specs.Laws.{LawfulAnswer, AlwaysConsistent, AlwaysLawful, EndsAllNamed, RefusedChangesNothing}
 use Rattle.rules.proofs.Tables.{read, size_put, all_put}
-use Rattle.rules.proofs.Pairs.{OtherFine, Keeps, KeepsIf}
+use Rattle.rules.proofs.Pairs.{OtherSound, Keeps, KeepsIf}
 use Rattle.rules.proofs.Calls.{timeout_keeps, call_keeps}
 
 -- ---- after a plan
-
-sent_lawful : (a b : Option Message) → LawfulIf a → LawfulIf b → AllByRecursion Lawful (listed (up_to_two a b))
-sent_lawful a b A B = grind arith
-
-other_lawful : (o : Option Told) → OtherFine o → LawfulIf (other_sent o)
-other_lawful None F = tt
-other_lawful (Some t) F = F.1
-
-one_more : (n : ℕ) → InWord n → n < 65535 → InWord (n + 1)
-one_more n e h = grind (arith, nat_tests)
 
 following_fits : (next : Option ℕ) → NextInRange next → NextInRange (following next)
 following_fits None N = tt
@@ -56,9 +43,9 @@ module _ (s : State) (C : Consistent s) where
   size_after : (legs : List Leg) (o : Option Told) → length legs ≡ 32 → length (put_other legs o) ≡ 32
   size_after legs o e = grind (arith, size_put)
 
-  sound_after : (legs : List Leg) (o : Option Told) → length legs ≡ 32 → ((p : Place) → Sound (read legs p)) → OtherFine o → (p : Place) → Sound (read (put_other legs o) p)
+  sound_after : (legs : List Leg) (o : Option Told) → length legs ≡ 32 → ((p : Place) → Sound (read legs p)) → OtherSound o → (p : Place) → Sound (read (put_other legs o) p)
   sound_after legs None e S F p = S p
-  sound_after legs (Some t) e S F p = all_put legs t.to t.reaction.leg Sound e S F.0 p
+  sound_after legs (Some t) e S F p = all_put legs t.to t.reaction.leg Sound e S F p
 
   after_consistent : (t : ℕ) (x : Plan) → Keeps s x → t ≤ 2 ^ 40 → ltb (free_places s) (length (listed (plan_sent x))) ≡ false → Consistent (after s t x)
   after_consistent t x K T room =
@@ -68,7 +55,7 @@ module _ (s : State) (C : Consistent s) where
         partners = K.partners;
         next = by_test NextInRange (asks x.own.sent || asks (other_sent x.other)) _ _ (λ _. following_fits s.next C.next) (λ _. C.next);
         time = T;
-        lawful = All-append Lawful s.waiting (listed (plan_sent x)) C.lawful (sent_lawful x.own.sent (other_sent x.other) K.lawful (other_lawful x.other K.other));
+        lawful = All-append Lawful s.waiting (listed (plan_sent x)) C.lawful K.lawful;
         fits = simp length-append (omega (arith, C.fits, ltb-false (free_places s) (length (listed (plan_sent x))) room));
       }
     where
@@ -84,7 +71,7 @@ module _ (s : State) (C : Consistent s) where
   carried_good t x K T =
       by_test Good (ltb (free_places s) (length (listed (plan_sent x)))) _ _
       (λ _. (tt, C))
-      (λ room. (sent_lawful x.own.sent (other_sent x.other) K.lawful (other_lawful x.other K.other), after_consistent t x K T room))
+      (λ room. (K.lawful, after_consistent t x K T room))
 
   settled_good : (t : ℕ) (d : Result Plan Refusal) → KeepsIf s d → t ≤ 2 ^ 40 → Good (settled s t d)
   settled_good t (Err why) K T = (tt, C)
@@ -93,14 +80,12 @@ module _ (s : State) (C : Consistent s) where
   at_time_lem : (t : ℕ) → t ≤ 2 ^ 40 → Consistent (at_time s t)
   at_time_lem t T = assumption
 
-  tick_to_lem : (t : ℕ) (o : Option Due) → t ≤ 2 ^ 40 → Good (elim o [ None ↦ (did note.NoneDue few.Zero few.Zero, at_time s t) | Some d ↦ settled s t (timeout_plan s d) ])
-  tick_to_lem t None T = (tt, at_time_lem t T)
-  tick_to_lem t (Some d) T = settled_good t (timeout_plan s d) (timeout_keeps s C d) T
-
   tick_good : (t : ℕ) → Good (tick_step s t)
   tick_good t =
       by_test Good (leb s.time t && leb t (2 ^ 40)) _ _
-      (λ e. tick_to_lem t (due_by t s.deadlines) (leb-true t (2 ^ 40) (and_parts (leb s.time t) (leb t (2 ^ 40)) e).1))
+      (λ e.
+      let T = leb-true t (2 ^ 40) (and_parts (leb s.time t) (leb t (2 ^ 40)) e).1 in
+      by_option Good (due_by t s.deadlines) _ _ (tt, at_time_lem t T) (λ d. settled_good t _ (timeout_keeps s C d) T))
       (λ _. (tt, C))
 
   take_good : (w : List Message) → s.waiting ≡ w → Good (elim w [ [] ↦ (did note.QueueEmpty few.Zero few.Zero, s) | m ∷ ms ↦ (taken m, with_waiting s ms) ])
@@ -111,14 +96,10 @@ module _ (s : State) (C : Consistent s) where
       let room : length ms ≤ s.capacity = omega (arith, n) in
       (L.0, assumption L.1)
 
-  look_good : (o : Option Place) → Good (elim o [ None ↦ (Err refusal.NoSuchLeg, s) | Some p ↦ (shown (leg_at s p), s) ])
-  look_good None = (tt, C)
-  look_good _ = (tt, C)
-
-  pub step_good : (c : Call) → Good (step s c)
+  step_good : (c : Call) → Good (step s c)
   step_good (call.Tick t) = tick_good t
   step_good call.Take = take_good s.waiting refl
-  step_good (call.Look leg) = look_good (place_of leg)
+  step_good (call.Look leg) = by_option Good (place_of leg) _ _ (tt, C) (λ p. (tt, C))
   step_good c = settled_good s.time _ (call_keeps s C c) C.time
 
 -- ---- lives
@@ -126,7 +107,7 @@ module _ (s : State) (C : Consistent s) where
 fresh_free : (settings : Settings) (capacity : ℕ) (p : Place) → leg_at (fresh settings capacity) p ≡ free_leg
 fresh_free settings capacity p = get_or-replicate 32 p.index free_leg free_leg p.below
 
-pub fresh_consistent : (settings : Settings) (capacity : ℕ) → Consistent (fresh settings capacity)
+fresh_consistent : (settings : Settings) (capacity : ℕ) → Consistent (fresh settings capacity)
 fresh_consistent settings capacity =
     record {
       size = refl;
@@ -138,7 +119,7 @@ fresh_consistent settings capacity =
       fits = omega arith;
     }
 
-pub life_good : (s : State) (cs : List Call) → Consistent s → AllByRecursion LawfulAnswer (runs s cs).0 × Consistent (runs s cs).1
+life_good : (s : State) (cs : List Call) → Consistent s → AllByRecursion LawfulAnswer (runs s cs).0 × Consistent (runs s cs).1
 unfolding runs
 life_good s [] C = (tt, C)
 life_good s (c ∷ cs) C =
@@ -168,19 +149,17 @@ module _ (s : State) (why : Refusal) where
   settled_unchanged t (Err _) e = refl
   settled_unchanged t (Ok x) e = grind arith
 
-  tick_unchanged : (t : ℕ) (o : Option Due) → Unchanged (elim o [ None ↦ (did note.NoneDue few.Zero few.Zero, at_time s t) | Some d ↦ settled s t (timeout_plan s d) ])
-  tick_unchanged t o e = grind (arith, settled_unchanged)
-
   take_unchanged : (w : List Message) → Unchanged (elim w [ [] ↦ (did note.QueueEmpty few.Zero few.Zero, s) | m ∷ ms ↦ (taken m, with_waiting s ms) ])
-  take_unchanged w e = grind arith
-
-  look_unchanged : (o : Option Place) → Unchanged (elim o [ None ↦ (Err refusal.NoSuchLeg, s) | Some p ↦ (shown (leg_at s p), s) ])
-  look_unchanged o e = grind arith
+  take_unchanged [] e = refl
+  take_unchanged _ e = cc
 
   step_unchanged : (c : Call) → Unchanged (step s c)
-  step_unchanged (call.Tick t) = by_test Unchanged (leb s.time t && leb t (2 ^ 40)) _ _ (λ _. tick_unchanged t (due_by t s.deadlines)) (λ _ _. refl)
+  step_unchanged (call.Tick t) =
+      by_test Unchanged (leb s.time t && leb t (2 ^ 40)) _ _
+      (λ _. by_option Unchanged (due_by t s.deadlines) _ _ (λ e. cc) (λ d. settled_unchanged t (timeout_plan s d)))
+      (λ _ _. refl)
   step_unchanged call.Take = take_unchanged s.waiting
-  step_unchanged (call.Look leg) = look_unchanged (place_of leg)
+  step_unchanged (call.Look leg) = by_option Unchanged (place_of leg) _ _ (λ _. refl) (λ p _. refl)
   step_unchanged _ = settled_unchanged s.time _
 
 pub refused_changes_nothing : RefusedChangesNothing

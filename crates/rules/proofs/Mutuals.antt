@@ -1,5 +1,5 @@
 -- Partners that name each other still do after two legs have stepped.
-use Rattle.std.proofs.Common.{◌≡◌, ℕ, ◌≢◌, ◌⊎◌, Some, None, Option, sym, ◌∙◌, inl, inr, arith}
+use Rattle.std.proofs.Common.{◌≡◌, ◌≢◌, ◌⊎◌, Some, None, Option, sym, ◌∙◌, inl, inr, arith}
 use Rattle.leg.specs.declared.place.Place.{Place}
 use Rattle.rules.specs.Sound.{Tie, tied_to, returned}
 use Rattle.rules.specs.Consistent.{Mutual}
@@ -10,12 +10,6 @@ tied_returned t p = grind arith
 
 returned_back : (t : Tie) (p : Place) → returned (returned t p) (tied_to t) ≡ t
 returned_back t p = grind arith
-
-pub some_is : {A : Type 0} (x y : A) → ◌≡◌ {A = Option A} (Some x) (Some y) → x ≡ y
-some_is x y e = cc
-
-pub none_some : {A X : Type 0} (o : Option A) (x : A) → o ≡ None → o ≡ Some x → X
-none_some o x e f = absurd (let z : ◌≡◌ {A = ℕ} 0 1 = cc in omega arith)
 
 -- the ties of the legs that did not step, and of one that kept its own
 pub mutual_same : (old new : Place → Option Tie) → ((p : Place) → new p ≡ old p) → Mutual old → Mutual new

@@ -1,6 +1,5 @@
 -- The calls of the host, and timers that run out, leave a leg sound.
 use Rattle.std.proofs.Common.{◌≡◌, ℕ, Bool, true, false, Some, None, Option, refl}
-use Rattle.std.proofs.lemmas.Bool.{and_parts}
 use Rattle.leg.specs.declared.place.Place.{Place}
 use Rattle.leg.specs.declared.codes.Cause.TheVariants as cause
 use Rattle.leg.specs.declared.record.Owed.{Owed}
@@ -14,13 +13,13 @@ use Rattle.leg.specs.declared.reaction.Word.{Word}
 use Rattle.leg.specs.declared.reaction.Word.TheVariants as word
 use Rattle.leg.specs.declared.reaction.Named.TheVariants as named
 use Rattle.leg.specs.declared.reaction.Reaction.{Reaction}
-use Rattle.leg.specs.Views.{in_use, is_active, is_idle, is_held_not, is_unheld}
-use Rattle.machine.specs.Calls.{numbered, opening, clearing, transferring, identifying, placing, accepting, declining, holding_by, holding, retrieving}
-use Rattle.rules.specs.Sound.{InWord, NextInRange, OwedInRange, Sound, free, calling, ringing, active, idle, identify, initiate, setup, asked, holds, Tie, tie_of, keeps, consults, places, parts, loses}
+use Rattle.leg.specs.Views.{in_use, is_active, is_idle}
+use Rattle.machine.specs.Calls.{numbered, opening, clearing, transferring, identifying, placing, accepting, declining, holding, retrieving}
+use Rattle.rules.specs.Sound.{InWord, NextInRange, OwedInRange, Sound, free, calling, ringing, active, idle, identify, initiate, setup, asked, holds, Tie, keeps, consults, places, parts, loses}
 use Rattle.rules.specs.Events.{Fine, FineIf}
-use Rattle.rules.proofs.Sends.{release_lawful, notice_lawful, request_lawful, result_lawful, error_lawful}
+use Rattle.rules.proofs.Sends.{release_lawful, request_lawful, result_lawful, error_lawful}
 use Rattle.rules.proofs.Cases.{by_test}
-use Rattle.rules.proofs.Shapes.{with_transfer_lem, with_holder_lem, acting_fine, idle_tie, leaving_fine, lost_fine, abandon_tells, expired_fine}
+use Rattle.rules.proofs.Shapes.{fine, acting_fine, leaving_fine, lost_fine, abandon_tells, expired_fine}
 use Rattle.machine.specs.Timeouts.{transfer_timed_out, hold_timed_out, timed_out}
 
 module _ (Other : Place → Word → Bool) (at : Place) where
@@ -31,29 +30,24 @@ module _ (Other : Place → Word → Bool) (at : Place) where
   pub clearing_fine : (l : Leg) → FineIf Other at l (clearing l at)
   clearing_fine l = by_test (FineIf Other at l) (in_use l) _ _ (λ _. lost_fine None (release_lawful at)) (λ _. tt)
 
-  pub numbered_fine : (l : Leg) (next : Option ℕ) (f : ℕ → Reaction) → NextInRange next → ((n : ℕ) → InWord n → Fine Other at l (f n)) → FineIf Other at l (numbered next f)
+  numbered_fine : (l : Leg) (next : Option ℕ) (f : ℕ → Reaction) → NextInRange next → ((n : ℕ) → InWord n → Fine Other at l (f n)) → FineIf Other at l (numbered next f)
   numbered_fine l None f N g = tt
   numbered_fine l (Some n) f N g = g n N
 
   pub transferring_fine : {l : Leg} (a : ℕ) (next : Option ℕ) → Sound l → InWord a → NextInRange next → FineIf Other at l (transferring l at a next)
   transferring_fine a next (active q _ h d Q idle H) A N =
-      numbered_fine _ next _ N (λ n M. record { sound = active q _ h d Q (initiate n None) H; lawful = request_lawful at refl M refl A; tells = keeps None; few = λ _. refl })
+      numbered_fine _ next _ N (λ n M. fine (active q _ h d Q (initiate n None) H) (request_lawful at refl M refl A) (keeps None) refl)
   transferring_fine a next _ A N = tt
 
   pub identifying_fine : {l : Leg} (p : Place) (next : Option ℕ) → Sound l → is_active l ≡ true → is_idle l ≡ true → (Other p (word.Consult at) ≡ true) → NextInRange next → FineIf Other at l (identifying l at p next)
-  identifying_fine {l = l} p next S e f X N =
-      numbered_fine l next _ N
-      (λ n M. record {
-        sound = with_transfer_lem S e (identify n p);
-        lawful = request_lawful at refl M refl refl;
-        tells = rw (idle_tie l f) (consults p X);
-        few = λ _. refl;
-      })
+  identifying_fine p next (active q _ h d Q idle H) e f X N =
+      numbered_fine _ next _ N (λ n M. fine (active q _ h d Q (identify n p) H) (request_lawful at refl M refl refl) (consults p X) refl)
+  identifying_fine p next _ e f X N = cc
 
   pub placing_fine : {l : Leg} (p : Place) (o : Owed) (own : ℕ) (next : Option ℕ) → Sound l → in_use l ≡ false → OwedInRange o → (Other p (word.Place at) ≡ true) → InWord own → NextInRange next → FineIf Other at l (placing at p o own next)
   placing_fine p o own next free e O X W N =
       numbered_fine _ next _ N
-      (λ n M. record { sound = calling _ n p O.address; lawful = request_lawful at refl M O.identity W; tells = places p X; few = λ _. refl })
+      (λ n M. fine (calling _ n p O.address) (request_lawful at refl M O.identity W) (places p X) refl)
   placing_fine p o own next _ e O X W N = cc
 
   pub accepting_fine : {l : Leg} → Sound l → FineIf Other at l (accepting l at)
@@ -65,42 +59,29 @@ module _ (Other : Place → Word → Bool) (at : Place) where
   declining_fine (active q _ h d Q (asked o O) H) = acting_fine (active q _ h d Q idle H) (error_lawful at refl O.number refl refl) refl
   declining_fine _ = tt
 
-  pub holding_by_fine : {l : Leg} (k : HoldKind) (next : Option ℕ) → Sound l → is_active l ≡ true → is_held_not l ≡ true → NextInRange next → FineIf Other at l (holding_by l at k next)
-  holding_by_fine hold.Near next S e f N = acting_fine (with_holder_lem holder.NearHolding S e f) (notice_lawful at refl refl refl refl) refl
-  holding_by_fine {l = l} hold.Remote next S e f N =
-      numbered_fine l next _ N
-      (λ n M. record {
-        sound = with_holder_lem (holder.RemoteRequested n) S e f;
-        lawful = request_lawful at refl M refl refl;
-        tells = keeps (tie_of l);
-        few = λ _. refl;
-      })
-
-  pub holding_fine : (l : Leg) (k : HoldKind) (next : Option ℕ) → Sound l → NextInRange next → FineIf Other at l (holding l at k next)
-  holding_fine l k next S N =
-      by_test (FineIf Other at l) (in_use l) _ _
-      (λ _. by_test (FineIf Other at l) (is_active l) _ _
-      (λ e. by_test (FineIf Other at l) (is_unheld l) _ _ (λ f. holding_by_fine k next S e (and_parts _ _ f).1 N) (λ _. tt))
-      (λ _. tt))
-      (λ _. tt)
+  pub holding_fine : {l : Leg} (k : HoldKind) (next : Option ℕ) → Sound l → NextInRange next → FineIf Other at l (holding l at k next)
+  holding_fine hold.Near next (active q t holder.Idle None Q T H) N = acting_fine (active q t holder.NearHolding None Q T (holds _)) (request_lawful at refl refl refl refl) refl
+  holding_fine hold.Remote next (active q t holder.Idle None Q T H) N =
+      numbered_fine _ next _ N (λ n M. fine (active q t _ None Q T (holds (holder.RemoteRequested n))) (request_lawful at refl M refl refl) (keeps _) refl)
+  holding_fine k next _ N = tt
 
   pub retrieving_fine : {l : Leg} (next : Option ℕ) → Sound l → NextInRange next → FineIf Other at l (retrieving l at next)
-  retrieving_fine next (active q t _ _ Q T (holds holder.NearHolding)) N = acting_fine (active q t holder.Idle None Q T (holds _)) (notice_lawful at refl refl refl refl) refl
+  retrieving_fine next (active q t _ _ Q T (holds holder.NearHolding)) N = acting_fine (active q t holder.Idle None Q T (holds _)) (request_lawful at refl refl refl refl) refl
   retrieving_fine next (active q t _ _ Q T (holds holder.RemoteHolding)) N =
       numbered_fine _ next _ N
-      (λ n M. record { sound = active q t _ None Q T (holds (holder.RetrieveRequested n)); lawful = request_lawful at refl M refl refl; tells = keeps _; few = λ _. refl })
+      (λ n M. fine (active q t _ None Q T (holds (holder.RetrieveRequested n))) (request_lawful at refl M refl refl) (keeps _) refl)
   retrieving_fine next _ N = tt
 
-  pub transfer_timed_out_fine : {l : Leg} → Sound l → Fine Other at l (transfer_timed_out l at)
+  transfer_timed_out_fine : {l : Leg} → Sound l → Fine Other at l (transfer_timed_out l at)
   transfer_timed_out_fine (calling q n p Q) = leaving_fine (Some (named.Transfer cause.Timeout)) (release_lawful at) (loses (Tie.sets_up p)) refl
   transfer_timed_out_fine (active q _ h d Q (identify n p) H) =
-      record { sound = active q _ h d Q idle H; lawful = notice_lawful at refl refl refl refl; tells = parts p; few = λ _. refl }
-  transfer_timed_out_fine (active q _ h d Q (initiate n s) H) = record { sound = active q _ h d Q idle H; lawful = tt; tells = abandon_tells s; few = λ _. refl }
-  transfer_timed_out_fine (active q _ h d Q setup H) = record { sound = active q _ h d Q idle H; lawful = tt; tells = keeps None; few = λ _. refl }
+      fine (active q _ h d Q idle H) (request_lawful at refl refl refl refl) (parts p) refl
+  transfer_timed_out_fine (active q _ h d Q (initiate n s) H) = fine (active q _ h d Q idle H) tt (abandon_tells s) refl
+  transfer_timed_out_fine (active q _ h d Q setup H) = fine (active q _ h d Q idle H) tt (keeps None) refl
   transfer_timed_out_fine S = expired_fine slot.Transfer S
 
-  pub hold_timed_out_fine : {l : Leg} → Sound l → Fine Other at l (hold_timed_out l at)
-  hold_timed_out_fine (active q t _ _ Q T (holds (holder.RemoteRequested n))) = record { sound = active q t _ None Q T (holds holder.Idle); lawful = tt; tells = keeps _; few = λ _. refl }
+  hold_timed_out_fine : {l : Leg} → Sound l → Fine Other at l (hold_timed_out l at)
+  hold_timed_out_fine (active q t _ _ Q T (holds (holder.RemoteRequested n))) = fine (active q t _ None Q T (holds holder.Idle)) tt (keeps _) refl
   hold_timed_out_fine (active q t _ _ Q T (holds (holder.RetrieveRequested n))) = lost_fine (Some (named.Hold cause.Timeout)) (release_lawful at)
   hold_timed_out_fine S = expired_fine slot.Hold S
 

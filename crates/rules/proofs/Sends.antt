@@ -2,7 +2,6 @@
 use Rattle.std.proofs.Common.{◌≡◌, ℕ, ◌+◌, ◌<◌, true, Some, refl, arith}
 use Rattle.std.proofs.lemmas.Bool.Decides.{nat_tests}
 use Rattle.message.specs.declared.codes.Carrier.{Carrier}
-use Rattle.message.specs.declared.codes.Carrier.TheVariants as carrier
 use Rattle.message.specs.declared.codes.Kind.TheVariants as kind
 use Rattle.message.specs.declared.codes.Operation.{Operation}
 use Rattle.message.specs.declared.codes.ErrorCode.{ErrorCode}
@@ -11,7 +10,7 @@ use Rattle.message.specs.Format.{Lawful}
 use Rattle.message.specs.Ranges.{inside, span, leg_range, number_range, identity_range, address_range}
 use Rattle.message.specs.Table.{permitted, operation_byte}
 use Rattle.leg.specs.declared.place.Place.{Place}
-use Rattle.machine.specs.Messages.{release_on, notice_on, request_on, result_on, identity_on, error_on}
+use Rattle.machine.specs.Messages.{release_on, request_on, result_on, identity_on, error_on}
 use Rattle.rules.specs.Sound.{InWord}
 
 leg_below : (n : ℕ) → n < 32 → inside leg_range n ≡ true
@@ -27,10 +26,7 @@ module _ (at : Place) where
   pub release_lawful : Lawful (release_on at)
   release_lawful = record { standing = refl; leg = leg_below at.index at.below; number = refl; identity = refl; address = refl; error = refl }
 
-  -- an invoke that may stand in FACILITY and is not confirmed
-  pub notice_lawful : {o : Operation} → permitted carrier.Facility kind.Invoke (operation_byte (Some o)) ≡ true → inside (number_range (Some o)) 0 ≡ true → inside (identity_range kind.Invoke (Some o)) 0 ≡ true → inside (address_range kind.Invoke (Some o)) 0 ≡ true → Lawful (notice_on at o)
-  notice_lawful s n i a = record { standing = s; leg = leg_below at.index at.below; number = n; identity = i; address = a; error = refl }
-
+  -- an invoke, also one that is not confirmed
   pub request_lawful : {c : Carrier} {o : Operation} {n i a : ℕ} → permitted c kind.Invoke (operation_byte (Some o)) ≡ true → inside (number_range (Some o)) n ≡ true → inside (identity_range kind.Invoke (Some o)) i ≡ true → inside (address_range kind.Invoke (Some o)) a ≡ true → Lawful (request_on at c o n i a)
   request_lawful s x y z = record { standing = s; leg = leg_below at.index at.below; number = x; identity = y; address = z; error = refl }
 

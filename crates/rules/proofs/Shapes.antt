@@ -1,6 +1,5 @@
--- A record that occurs, with one field changed, occurs.
-use Rattle.std.proofs.Common.{◌≡◌, Bool, true, false, ◌&&◌, Some, None, Option, refl, arith}
-use Rattle.std.proofs.lemmas.Bool.{and_parts}
+-- The shapes of reactions: what is to be shown of each.
+use Rattle.std.proofs.Common.{◌≡◌, Bool, true, false, Some, None, Option, refl, arith}
 use Rattle.message.specs.declared.record.Message.{Message}
 use Rattle.leg.specs.declared.place.Place.{Place}
 use Rattle.leg.specs.declared.record.Phase.TheVariants as phase
@@ -9,58 +8,20 @@ use Rattle.leg.specs.declared.record.Transfer.{Transfer}
 use Rattle.leg.specs.declared.record.Transfer.TheVariants as transfer
 use Rattle.leg.specs.declared.record.Holder.{Holder}
 use Rattle.leg.specs.declared.record.Holder.TheVariants as holder
-use Rattle.leg.specs.declared.record.HoldKind.{HoldKind}
 use Rattle.leg.specs.declared.record.Leg.{Leg}
 use Rattle.leg.specs.declared.reaction.Tell.{Tell}
 use Rattle.leg.specs.declared.reaction.Word.{Word}
 use Rattle.leg.specs.declared.reaction.Word.TheVariants as word
 use Rattle.leg.specs.declared.reaction.Slot.{Slot}
 use Rattle.leg.specs.declared.reaction.Slot.TheVariants as slot
+use Rattle.leg.specs.declared.reaction.Reaction.{Reaction}
 use Rattle.leg.specs.declared.reaction.Named.{Named}
 use Rattle.leg.specs.declared.codes.Note.{Note}
-use Rattle.leg.specs.Views.{when_idle, when_await_setup_response, is_awaiting_setup, is_unheld, is_active, is_idle, holds_none, is_held_not, with_transfer, with_holder, with_held, partner_of}
-use Rattle.machine.specs.Reactions.{last_ends, unawaited, tell_to, acting, strayed, leaving, tell_lost}
+use Rattle.leg.specs.Views.{partner_of}
+use Rattle.machine.specs.Reactions.{last_ends, tell_to, acting, strayed, leaving, tell_lost}
 use Rattle.machine.specs.Timeouts.{expired}
-use Rattle.rules.specs.Sound.{end_follows, is_two, leg, transfer_tie, secondary_tie, releases, abandons, Sound, free, active, SoundTransfer, idle, setup, holds, is_held, Tie, tie_of, Tells, keeps, loses, LawfulIf}
+use Rattle.rules.specs.Sound.{end_follows, is_two, leg, transfer_tie, secondary_tie, releases, abandons, Sound, free, Tie, tie_of, Tells, keeps, loses, LawfulIf}
 use Rattle.rules.specs.Events.{Fine}
-
-pub with_transfer_lem : {l : Leg} {t : Transfer} → Sound l → is_active l ≡ true → SoundTransfer t → Sound (with_transfer l t)
-with_transfer_lem (active q u h d Q U H) e T = active q _ h d Q T H
-with_transfer_lem _ e T = cc
-
--- something is awaited of the leg or of its far end, other than the answer to a set-up
-abbrev pub waits : Transfer → Bool
-waits t = when_idle t false (when_await_setup_response t (λ _ _. false) true)
-
--- a leg that waits for a transfer is active, unless it calls
-pub waiting_active : {l : Leg} {t : Transfer} → Sound l → l.transfer ≡ t → waits t ≡ true → is_active l ≡ true
-waiting_active S e w = grind arith
-
--- one that is not held may hold
-pub with_holder_lem : {l : Leg} (h : Holder) → Sound l → is_active l ≡ true → is_held_not l ≡ true → Sound (with_holder l h)
-with_holder_lem h (active q t _ None Q T H) e f = active q t h None Q T (holds h)
-with_holder_lem h _ e f = cc
-
--- one that does not hold may be held
-pub with_held_lem : {l : Leg} (d : Option HoldKind) → Sound l → is_active l ≡ true → holds_none l ≡ true → Sound (with_held l d)
-with_held_lem d (active q t holder.Idle _ Q T H) e f = active q t holder.Idle d Q T (is_held d)
-with_held_lem d _ e f = cc
-
--- one that holds may hold otherwise, or not any more
-pub with_holder_again : {l : Leg} (h : Holder) → Sound l → holds_none l ≡ false → Sound (with_holder l h)
-with_holder_again h (active q t _ _ Q T (holds x)) e = active q t h None Q T (holds h)
-with_holder_again h _ e = cc
-
--- one that is held may be fetched back
-pub with_held_idle : {l : Leg} → Sound l → Sound (with_held l None)
-with_held_idle (active q t h _ Q T H) = active q t h None Q T (holds h)
-with_held_idle S = S
-
-pub held_here_lem : {l : Leg} (d : Option HoldKind) → Sound l → (is_active l && is_unheld l) ≡ true → Sound (with_held l d)
-held_here_lem d S e = with_held_lem d S (and_parts _ _ e).0 (and_parts _ _ (and_parts _ _ e).1).0
-
-pub idle_tie : (l : Leg) → is_idle l ≡ true → tie_of l ≡ None
-idle_tie l e = grind arith
 
 -- where the partner of a leg that ends may name an end, this leg names one at most
 lost_few : (t : Transfer) (h : Holder) (k : Option Named) → end_follows (transfer_tie t) (tell_to (partner_of (leg phase.Free 0 t h None)) word.Lost) ≡ true → is_two (last_ends (leg phase.Free 0 t h None) k) ≡ false
@@ -70,18 +31,16 @@ lost_few t h k e = grind arith
 pub part_few : (t : Option Tie) (s : Option Place) → end_follows t (tell_to s word.Part) ≡ false
 part_few t s = grind arith
 
--- ---- the shapes of reactions
-
 module _ {Other : Place → Word → Bool} {at : Place} where
+  -- a reaction that names one end at most
+  pub fine : {l : Leg} {r : Reaction} → Sound r.leg → LawfulIf r.sent → Tells Other at (tie_of l) r.tell (tie_of r.leg) → is_two r.ends ≡ false → Fine Other at l r
+  fine S L T e = record { sound = S; lawful = L; tells = T; few = λ _. e }
+
   pub acting_fine : {l k : Leg} {m : Option Message} {n : Note} → Sound k → LawfulIf m → tie_of k ≡ tie_of l → Fine Other at l (acting k m n)
-  acting_fine S L e = record { sound = S; lawful = L; tells = rw e (keeps _); few = λ _. refl }
+  acting_fine S L e = fine S L (rw e (keeps _)) refl
 
   pub strayed_fine : {l : Leg} → Sound l → Fine Other at l (strayed l)
   strayed_fine S = acting_fine S tt refl
-
-  -- what is told fits the tie, the transfer state being known
-  pub tied : {t u : Transfer} {w : Option Tell} {k : Option Tie} → t ≡ u → Tells Other at (transfer_tie u) w k → Tells Other at (transfer_tie t) w k
-  tied e T = rw (e, transfer_tie) T
 
   -- the partner of a leg that ends is told so
   lost_tells : (t : Transfer) → Tells Other at (transfer_tie t) (tell_to (partner_of (leg phase.Free 0 t holder.Idle None)) word.Lost) None
@@ -109,9 +68,5 @@ module _ {Other : Place → Word → Bool} {at : Place} where
   abandon_tells (Some s) = abandons s
 
   pub expired_fine : {l : Leg} (k : Slot) → Sound l → Fine Other at l (expired l k)
-  expired_fine slot.Transfer S = record { sound = S; lawful = tt; tells = keeps _; few = λ _. refl }
-  expired_fine _ S = record { sound = S; lawful = tt; tells = keeps _; few = λ _. refl }
-
-  pub unawaited_fine : {l : Leg} (n : Note) → Sound l → is_awaiting_setup l ≡ true → Fine Other at l (unawaited l n)
-  unawaited_fine n (active q _ h d Q setup H) e = record { sound = active q _ h d Q idle H; lawful = tt; tells = keeps None; few = λ _. refl }
-  unawaited_fine n _ e = cc
+  expired_fine slot.Transfer S = fine S tt (keeps _) refl
+  expired_fine _ S = fine S tt (keeps _) refl

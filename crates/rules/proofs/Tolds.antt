@@ -1,5 +1,5 @@
 -- A word of another leg leaves a leg sound; and the law as a whole.
-use Rattle.std.proofs.Common.{◌≡◌, ℕ, true, Some, None, Option, refl, subst}
+use Rattle.std.proofs.Common.{Ok, ◌≡◌, ℕ, true, Some, None, Option, refl, subst}
 use Rattle.message.specs.declared.codes.Operation.TheVariants as operation
 use Rattle.message.specs.declared.record.Message.{Message}
 use Rattle.message.specs.Format.{Lawful}
@@ -9,17 +9,13 @@ use Rattle.leg.specs.declared.record.Bond.{Bond}
 use Rattle.leg.specs.declared.record.Bond.TheVariants as bond
 use Rattle.leg.specs.declared.record.Transfer.TheVariants as transfer
 use Rattle.leg.specs.declared.record.Leg.{Leg}
+use Rattle.leg.specs.declared.reaction.Reaction.{Reaction}
 use Rattle.leg.specs.declared.reaction.Word.TheVariants as word
-use Rattle.leg.specs.declared.reaction.Named.TheVariants as named
-use Rattle.leg.specs.Views.{is_active, with_transfer, when_asked, calling_leg}
+use Rattle.leg.specs.Views.{is_active, with_transfer, when_asked, when_bound}
 use Rattle.machine.specs.Messages.{notice_on}
-use Rattle.machine.specs.Reactions.{leaving}
 use Rattle.rules.specs.Sound.{InWord, InIdentity, NextInRange, OwedInRange, Sound, free, calling, active, idle, identify, initiate, asked, bound, SoundBond, LawfulIf}
-use Rattle.machine.specs.declared.event.Event.TheVariants as event
 use Rattle.rules.specs.Events.{FineTold, FineToldIf}
-use Rattle.rules.proofs.Sends.{release_lawful, notice_lawful, request_lawful, result_lawful, error_lawful}
-use Rattle.rules.proofs.Cases.{by_asked, by_bound}
-use Rattle.rules.proofs.Shapes.{with_transfer_lem, waiting_active}
+use Rattle.rules.proofs.Sends.{release_lawful, request_lawful, result_lawful, error_lawful}
 use Rattle.machine.specs.Told.{unmoved, parting, bond_initiates, bond_completes, bond_sends, partner_lost}
 use Rattle.machine.specs.declared.event.Event.TheVariants as event
 use Rattle.rules.specs.Events.{LegStaysSound, ToldStaysSound}
@@ -34,34 +30,42 @@ stays_sound Other l at own next (event.Identify p) S W N R = identifying_fine Ot
 stays_sound Other l at own next (event.SetUp p o) S W N R = placing_fine Other at p o own next S R.0 R.1 R.2 W N
 stays_sound Other l at own next event.Accept S W N R = accepting_fine Other at S
 stays_sound Other l at own next event.Decline S W N R = declining_fine Other at S
-stays_sound Other l at own next (event.Hold k) S W N R = holding_fine Other at l k next S N
+stays_sound Other l at own next (event.Hold k) S W N R = holding_fine Other at k next S N
 stays_sound Other l at own next event.Retrieve S W N R = retrieving_fine Other at next S N
 stays_sound Other l at own next (event.Hear m) S W N R = heard_on_fine l own m S W R
 stays_sound Other l at own next (event.Meet m s) S W N R = set_up_fine Other at m s S R.0 R.1 R.2
 stays_sound Other l at own next (event.RunOut k) S W N R = timed_out_fine Other at k S
 
+told_fine : {r : Reaction} → Sound r.leg → LawfulIf r.sent → r.tell ≡ None → FineTold r
+told_fine S L e = record { sound = S; lawful = L; nobody = e }
+
 unmoved_fine : {l : Leg} → Sound l → FineTold (unmoved l)
-unmoved_fine S = record { sound = S; lawful = tt; nobody = refl }
+unmoved_fine S = told_fine S tt refl
 
 pub abandon_lawful : (at : Place) → Lawful (notice_on at operation.CallTransferAbandon)
-abandon_lawful at = notice_lawful at refl refl refl refl
+abandon_lawful at = request_lawful at refl refl refl refl
 
 pub parting_fine : {l : Leg} {m : Option Message} → Sound l → is_active l ≡ true → LawfulIf m → FineTold (parting l m)
-parting_fine S e L = record { sound = with_transfer_lem S e idle; lawful = L; nobody = refl }
+parting_fine (active q _ h d Q T H) e L = told_fine (active q _ h d Q idle H) L refl
+parting_fine _ e L = cc
 
-leaves_fine : {m : Option Message} (l : Leg) → LawfulIf m → FineTold (leaving l m None None)
-leaves_fine l L = record { sound = free; lawful = L; nobody = refl }
+told_consult : {l : Leg} (s : Place) → Sound l → is_active l ≡ true → FineTold (unmoved (with_transfer l (transfer.Bound (bond.Consulting s))))
+told_consult s (active q _ h d Q T H) e = unmoved_fine (active q _ h d Q (bound _ (SoundBond.consulting s)) H)
+told_consult s _ e = cc
 
--- an active leg that is bound
-told_initiate : (at : Place) (l : Leg) (i a : ℕ) (next : Option ℕ) (b : Bond) → Sound l → is_active l ≡ true → InIdentity i → InWord a → NextInRange next → FineToldIf (bond_initiates l at i a next b)
-told_initiate at l i a None (bond.Consulting s) S e I A N = tt
-told_initiate at l i a (Some n) (bond.Consulting s) S e I A N =
-    record { sound = with_transfer_lem S e (initiate n (Some s)); lawful = request_lawful at refl N I A; nobody = refl }
-told_initiate at l i a next _ S e I A N = unmoved_fine S
+told_place : {l : Leg} (n : Place) → Sound l → FineTold (when_asked l.transfer (λ o. unmoved (with_transfer l (transfer.Bound (bond.Placing n o)))) (unmoved l))
+told_place n (active q _ h d Q (asked o O) H) = unmoved_fine (active q _ h d Q (bound _ (SoundBond.placing n o O)) H)
+told_place n S = unmoved_fine S
 
-told_complete : (at : Place) (l : Leg) (b : Bond) → Sound l → SoundBond b → FineTold (bond_completes l at b)
-told_complete at l _ S (SoundBond.placing n o O) = leaves_fine l (result_lawful at refl O.number refl refl)
-told_complete at l _ S _ = unmoved_fine S
+told_initiate : {l : Leg} (at : Place) (i a : ℕ) (next : Option ℕ) → Sound l → InIdentity i → InWord a → NextInRange next → FineToldIf (when_bound l.transfer (bond_initiates l at i a next) (Ok (unmoved l)))
+told_initiate at i a None (active q _ h d Q (bound _ (SoundBond.consulting s)) H) I A N = tt
+told_initiate at i a (Some n) (active q _ h d Q (bound _ (SoundBond.consulting s)) H) I A N =
+    told_fine (active q _ h d Q (initiate n (Some s)) H) (request_lawful at refl N I A) refl
+told_initiate at i a next S I A N = unmoved_fine S
+
+told_complete : {l : Leg} (at : Place) → Sound l → FineTold (when_bound l.transfer (bond_completes l at) (unmoved l))
+told_complete at (active q _ h d Q (bound _ (SoundBond.placing n o O)) H) = told_fine free (result_lawful at refl O.number refl refl) refl
+told_complete at S = unmoved_fine S
 
 bond_sends_lem : (at : Place) (b : Bond) → SoundBond b → LawfulIf (bond_sends at b)
 bond_sends_lem at _ (SoundBond.consulting s) = tt
@@ -69,34 +73,23 @@ bond_sends_lem at _ (SoundBond.consulted p) = abandon_lawful at
 bond_sends_lem at _ (SoundBond.placing n o O) = error_lawful at refl O.number refl refl
 
 lost_partner : (at : Place) (l : Leg) → Sound l → FineTold (partner_lost l at)
-lost_partner at _ (calling q n p Q) = leaves_fine (calling_leg q n p) (release_lawful at)
-lost_partner at _ (active q _ h d Q (identify n p) H) = record { sound = active q _ h d Q idle H; lawful = abandon_lawful at; nobody = refl }
+lost_partner at _ (calling q n p Q) = told_fine free (release_lawful at) refl
+lost_partner at _ (active q _ h d Q (identify n p) H) = told_fine (active q _ h d Q idle H) (abandon_lawful at) refl
 lost_partner at _ (active q _ h d Q (initiate n s) H) = unmoved_fine (active q _ h d Q (initiate n None) H)
-lost_partner at _ (active q _ h d Q (bound b B) H) = record { sound = active q _ h d Q idle H; lawful = bond_sends_lem at b B; nobody = refl }
+lost_partner at _ (active q _ h d Q (bound b B) H) = told_fine (active q _ h d Q idle H) (bond_sends_lem at b B) refl
 lost_partner at _ S = unmoved_fine S
 
--- what holds of a leg that is asked, and of one that is bound
+-- what a leg that is asked keeps is in range
 pub asked_in : (l : Leg) → Sound l → (o : Owed) → l.transfer ≡ transfer.Asked o → OwedInRange o
 asked_in _ (active q _ h d Q (asked x O) H) o e = let same : x ≡ o = cc in subst OwedInRange same O
 asked_in _ _ o e = cc
 
-bound_in : (l : Leg) → Sound l → (b : Bond) → l.transfer ≡ transfer.Bound b → SoundBond b
-bound_in _ (active q _ h d Q (bound x B) H) b e = let same : x ≡ b = cc in subst SoundBond same B
-bound_in _ _ b e = cc
-
-told_place : (at : Place) (l : Leg) (n : Place) → Sound l → FineTold (when_asked l.transfer (λ o. unmoved (with_transfer l (transfer.Bound (bond.Placing n o)))) (unmoved l))
-told_place at l n S =
-    by_asked FineTold l.transfer _ _
-    (λ o e. unmoved_fine (with_transfer_lem S (waiting_active S e refl) (bound (bond.Placing n o) (SoundBond.placing n o (asked_in l S o e)))))
-    (unmoved_fine S)
-
 pub told_stays_sound : ToldStaysSound
-told_stays_sound l at (word.Consult s) next S N R = unmoved_fine (with_transfer_lem S R (bound (bond.Consulting s) (SoundBond.consulting s)))
-told_stays_sound l at (word.Place n) next S N R = told_place at l n S
-told_stays_sound l at (word.Initiate i a) next S N R =
-    by_bound FineToldIf l.transfer _ _ (λ b e. told_initiate at l i a next b S (waiting_active S e refl) R.0 R.1 N) (unmoved_fine S)
+told_stays_sound l at (word.Consult s) next S N R = told_consult s S R
+told_stays_sound l at (word.Place n) next S N R = told_place n S
+told_stays_sound l at (word.Initiate i a) next S N R = told_initiate at i a next S R.0 R.1 N
 told_stays_sound l at word.Part next S N R = parting_fine S R tt
 told_stays_sound l at word.Abandon next S N R = parting_fine S R (abandon_lawful at)
-told_stays_sound l at word.Complete next S N R = by_bound FineTold l.transfer _ _ (λ b e. told_complete at l b S (bound_in l S b e)) (unmoved_fine S)
-told_stays_sound l at word.Met next S N R = leaves_fine l (release_lawful at)
+told_stays_sound l at word.Complete next S N R = told_complete at S
+told_stays_sound l at word.Met next S N R = told_fine free (release_lawful at) refl
 told_stays_sound l at word.Lost next S N R = lost_partner at l S
