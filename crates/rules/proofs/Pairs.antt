@@ -11,7 +11,6 @@ use Rattle.leg.specs.declared.record.Transfer.{Transfer}
 use Rattle.leg.specs.declared.record.Transfer.TheVariants as transfer
 use Rattle.leg.specs.declared.record.Leg.{Leg}
 use Rattle.message.specs.declared.codes.Operation.TheVariants as operation
-use Rattle.leg.specs.declared.reaction.Named.TheVariants as named
 use Rattle.leg.specs.declared.reaction.Reaction.{Reaction}
 use Rattle.leg.specs.declared.reaction.Tell.{Tell}
 use Rattle.leg.specs.declared.reaction.UpToTwo.{UpToTwo}
