@@ -103,7 +103,7 @@ impl From<Refusal> for u8 {
 }
 
 impl Refusal {
-    // The wrong byte of a message, 0 for any other refusal.
+    // The wrong byte of a message, 0 for any other refusal: a host that knows only numbers reads it beside the refusal's.
     pub fn value(self) -> u16
         ensures { result ≡ refusal_value self }
     {
@@ -133,7 +133,7 @@ impl From<Note> for u8 {
 }
 
 impl Note {
-    // The address that is asked for, 0 for any other note.
+    // The address that is asked for, 0 for any other note: a number beside the note's, as above.
     pub fn value(self) -> u16
         ensures { result ≡ note_value self }
     {

@@ -30,7 +30,7 @@ pub enum TimerChange {
     Set(Timer),
 }
 
-// At most two of a kind, in their order. No `ArrayVec`, since this is copied like its parts, and no third can be written.
+// At most two of a kind, in their order. No `ArrayVec`, since this is copied as its parts are.
 #[derive(Clone, Copy, PartialEq, Eq, Debug)]
 pub enum UpToTwo<T> {
     Zero,
@@ -66,7 +66,7 @@ pub struct Tell {
     pub word: Word,
 }
 
-// The open request that a step ends by a cause of its own, of a leg that ends with it.
+// The open request that a step ends by a cause of its own, of a leg that ends with it. Not a slot beside a cause, so that a call reads as what ends.
 #[derive(Clone, Copy, PartialEq, Eq, Debug)]
 pub enum Named {
     Transfer(Cause),

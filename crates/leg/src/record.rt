@@ -17,7 +17,7 @@ pub struct Owed {
     pub address: u16,
 }
 
-// How far the call of a leg has come.
+// How far the call of a leg has come. `Free` is a case, and no record none: the host may look at every leg.
 #[derive(Clone, Copy, PartialEq, Eq, Debug)]
 pub enum Phase {
     Free,
@@ -84,8 +84,8 @@ pub enum HoldKind {
     Remote,
 }
 
-// A peer that does not apply is 0, as the host is shown it: an Option would be turned into that number wherever it is read.
-// A leg is held where its far end put this end on hold.
+// A peer that does not apply is 0: the host looks at this record, and no far end has that number.
+// `held` is set while the far end has put this end on hold.
 #[derive(Clone, Copy, PartialEq, Eq, Debug)]
 pub struct Leg {
     pub phase: Phase,

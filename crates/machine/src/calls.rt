@@ -3,9 +3,9 @@ ghost use Rattle.std.specs.Prelude.{◌≡◌};
 ghost use Rattle.std.specs.Option.{ok_or};
 ghost use Rattle.machine.specs.Calls.{opening, clearing, initiating, transferring, identifying, placing, accepting, declining};
 
-use crate::reactions::{act, send_request};
+use crate::reactions::{act, send_request, tell};
 use crate::view::View;
-use leg::{Leg, Note, Owed, Phase, Place, Reaction, Refusal, Tell, Timer, Transfer, Word};
+use leg::{Leg, Note, Owed, Phase, Place, Reaction, Refusal, Timer, Transfer, Word};
 use message::{Carrier, ErrorCode, Operation};
 
 impl View {
@@ -87,10 +87,7 @@ impl View {
             },
             self.request(Carrier::Facility, operation, number, 0, 0),
             Timer::CtT1,
-            Some(Tell {
-                to: primary,
-                word: Word::Consult { secondary: self.at },
-            }),
+            tell(primary, Word::Consult { secondary: self.at }),
         ))
     }
 
@@ -104,10 +101,7 @@ impl View {
             Leg::calling(owed.address, number, primary),
             self.request(Carrier::Setup, operation, number, owed.identity, self.own),
             Timer::CtT4,
-            Some(Tell {
-                to: primary,
-                word: Word::Place { placed: self.at },
-            }),
+            tell(primary, Word::Place { placed: self.at }),
         ))
     }
 
@@ -150,10 +144,7 @@ impl View {
                 self.tell_lost(),
             )),
             (_, Transfer::Asked(owed)) => Ok(act(
-                Leg {
-                    transfer: Transfer::Idle,
-                    ..self.leg
-                },
+                self.idle(),
                 Some(self.error(
                     Carrier::Facility,
                     Operation::CallTransferInitiate,

@@ -7,6 +7,7 @@ use crate::view::View;
 use leg::{Reaction, Refusal};
 
 impl View {
+    // A match on the event, and no closures: a case carries what its step needs, and the cases are the steps that there are.
     pub fn react(self, event: Event) -> Result<Reaction, Refusal>
         ensures { result ≡ reacts self.leg self.at self.own self.next event }
     {

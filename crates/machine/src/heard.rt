@@ -2,9 +2,9 @@
 ghost use Rattle.std.specs.Prelude.{◌≡◌};
 ghost use Rattle.machine.specs.Replies.{connected_leg, setup_result, alerted, connected, lost, released_by_result, released_by_fault, released, heard_on};
 
-use crate::reactions::{act, settle, tell_to};
+use crate::reactions::{act, settle, tell, tell_to};
 use crate::view::View;
-use leg::{Cause, Ended, Leg, Named, Note, Phase, Reaction, Slot, Tell, Transfer, Word};
+use leg::{Cause, Ended, Leg, Named, Note, Phase, Reaction, Slot, Transfer, Word};
 use message::{Carrier, Kind, Message, Operation};
 
 impl View {
@@ -36,10 +36,7 @@ impl View {
                     cause: Cause::Result,
                 },
                 None,
-                Some(Tell {
-                    to: primary,
-                    word: Word::Complete,
-                }),
+                tell(primary, Word::Complete),
             ),
             _ => other,
         }
@@ -97,10 +94,7 @@ impl View {
                 self.leave(
                     None,
                     Some(Named::Transfer(Cause::Fault)),
-                    Some(Tell {
-                        to: primary,
-                        word: Word::Lost,
-                    }),
+                    tell(primary, Word::Lost),
                 )
             }
             _ => self.lose(),

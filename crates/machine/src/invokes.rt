@@ -5,10 +5,10 @@ ghost use Rattle.machine.specs.Reactions.{acting};
 ghost use Rattle.machine.specs.Invokes.{failed, identified, owed_for, invoked, ringing_leg, set_up};
 ghost use Rattle.machine.specs.Replies.{served};
 
-use crate::reactions::{act, with_timer};
+use crate::reactions::{act, tell, with_timer};
 use crate::view::View;
 use leg::{
-    FREE, HoldKind, Holder, Leg, Note, Owed, Phase, Place, Reaction, Refusal, Slot, Tell, Timer,
+    FREE, HoldKind, Holder, Leg, Note, Owed, Phase, Place, Reaction, Refusal, Slot, Timer,
     TimerChange, Transfer, Word,
 };
 use message::{Carrier, ErrorCode, Kind, Message, Operation};
@@ -147,10 +147,7 @@ impl View {
         };
         let answer = self.result(Carrier::Connect, operation, heard.number);
         Ok(Reaction {
-            tell: Some(Tell {
-                to: met,
-                word: Word::Met,
-            }),
+            tell: tell(met, Word::Met),
             ..act(Leg::active(heard.address), Some(answer), Note::Done)
         })
     }

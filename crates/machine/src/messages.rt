@@ -34,7 +34,7 @@ impl View {
         }
     }
 
-    // A confirmed invoke.
+    // A confirmed invoke. Identity and address stay two: they are two fields of a message, and most requests have neither.
     pub(crate) fn request(
         self,
         carrier: Carrier,

@@ -1,5 +1,7 @@
 // The shapes of a leg's reaction.
 ghost use Rattle.std.specs.Prelude.{◌≡◌};
+ghost use Rattle.leg.specs.Tells.{tell_leg};
+ghost use Rattle.leg.specs.Views.{with_transfer};
 ghost use Rattle.machine.specs.Reactions.{acting, with_timer, sending, ending, strayed, unawaited, request_end, last_ends, leaving, tell_to, tell_lost};
 
 use crate::view::View;
@@ -19,6 +21,14 @@ fn request_end(request: Option<Request>, cause: Cause) -> Option<Ended>
     })
 }
 
+// This leg is told this word.
+pub(crate) fn tell(to: Place, word: Word) -> Option<Tell>
+    ensures { result ≡ tell_leg to word }
+{
+    Some(Tell { to, word })
+}
+
+// The leg, if there is one, is told this word.
 pub(crate) fn tell_to(to: Option<Place>, word: Word) -> Option<Tell>
     ensures { result ≡ tell_to to word }
 {
@@ -93,15 +103,22 @@ impl View {
         act(self.leg, None, Note::Stray)
     }
 
+    // The record with no transfer under way.
+    pub(crate) fn idle(self) -> Leg
+        ensures { result ≡ with_transfer self.leg Transfer.Idle }
+    {
+        Leg {
+            transfer: Transfer::Idle,
+            ..self.leg
+        }
+    }
+
     // The set-up is awaited no longer, and its timer stops.
     pub(crate) fn stop_awaiting(self, note: Note) -> Reaction
         ensures { result ≡ unawaited self.leg note }
     {
-        let idle = Leg {
-            transfer: Transfer::Idle,
-            ..self.leg
-        };
-        with_timer(Slot::Transfer, TimerChange::Stopped, act(idle, None, note))
+        let idle = act(self.idle(), None, note);
+        with_timer(Slot::Transfer, TimerChange::Stopped, idle)
     }
 
     // The requests that end with the leg: the named one first, then what is left, transfer before hold.

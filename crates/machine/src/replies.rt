@@ -2,9 +2,9 @@
 ghost use Rattle.std.specs.Prelude.{◌≡◌};
 ghost use Rattle.machine.specs.Replies.{resulted, faulted};
 
-use crate::reactions::{settle, tell_to};
+use crate::reactions::{settle, tell, tell_to};
 use crate::view::View;
-use leg::{Bond, Cause, Ended, Holder, Leg, Named, Reaction, Slot, Tell, Transfer, Word};
+use leg::{Bond, Cause, Ended, Holder, Leg, Named, Reaction, Slot, Transfer, Word};
 use message::{Message, Operation};
 
 impl View {
@@ -25,7 +25,7 @@ impl View {
                     identity: heard.identity,
                     address: heard.address,
                 };
-                let tell = Some(Tell { to: primary, word });
+                let tell = tell(primary, word);
                 settle(Leg { transfer, ..leg }, Slot::Transfer, ended, None, tell)
             }
             (Operation::CallTransferInitiate, _, Transfer::AwaitInitiate { number, secondary })
@@ -53,10 +53,7 @@ impl View {
         ensures { result ≡ faulted self.leg self.at operation heard }
     {
         let leg = self.leg;
-        let idle = Leg {
-            transfer: Transfer::Idle,
-            ..leg
-        };
+        let idle = self.idle();
         let ended = Ended {
             number: heard.number,
             cause: Cause::Fault,
@@ -64,10 +61,7 @@ impl View {
         match (operation, leg.holder, leg.transfer) {
             (Operation::CallTransferIdentify, _, Transfer::AwaitIdentify { number, primary })
                 if number == heard.number => {
-                let tell = Some(Tell {
-                    to: primary,
-                    word: Word::Part,
-                });
+                let tell = tell(primary, Word::Part);
                 settle(idle, Slot::Transfer, ended, None, tell)
             }
             (Operation::CallTransferInitiate, _, Transfer::AwaitInitiate { number, secondary })

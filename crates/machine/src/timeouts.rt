@@ -2,11 +2,9 @@
 ghost use Rattle.std.specs.Prelude.{◌≡◌};
 ghost use Rattle.machine.specs.Timeouts.{expired, transfer_timed_out, hold_timed_out, timed_out};
 
-use crate::reactions::{act, settle, tell_to, with_timer};
+use crate::reactions::{act, settle, tell, tell_to, with_timer};
 use crate::view::View;
-use leg::{
-    Cause, Ended, Holder, Leg, Named, Note, Reaction, Slot, Tell, TimerChange, Transfer, Word,
-};
+use leg::{Cause, Ended, Holder, Leg, Named, Note, Reaction, Slot, TimerChange, Transfer, Word};
 use message::Operation;
 
 impl View {
@@ -21,10 +19,7 @@ impl View {
     fn transfer_timed_out(self) -> Reaction
         ensures { result ≡ transfer_timed_out self.leg self.at }
     {
-        let idle = Leg {
-            transfer: Transfer::Idle,
-            ..self.leg
-        };
+        let idle = self.idle();
         let cause = Cause::Timeout;
         match self.leg.transfer {
             Transfer::AwaitIdentify { number, primary } => settle(
@@ -32,10 +27,7 @@ impl View {
                 Slot::Transfer,
                 Ended { number, cause },
                 Some(self.notice(Operation::CallTransferAbandon)),
-                Some(Tell {
-                    to: primary,
-                    word: Word::Part,
-                }),
+                tell(primary, Word::Part),
             ),
             Transfer::AwaitInitiate { number, secondary } => settle(
                 idle,
@@ -47,10 +39,7 @@ impl View {
             Transfer::AwaitSetupResponse { primary, .. } => self.leave(
                 Some(self.release()),
                 Some(Named::Transfer(cause)),
-                Some(Tell {
-                    to: primary,
-                    word: Word::Lost,
-                }),
+                tell(primary, Word::Lost),
             ),
             Transfer::AwaitSetup => self.stop_awaiting(Note::SetupLapsed),
             Transfer::Idle | Transfer::Asked(_) | Transfer::Bound(_) => self.expire(Slot::Transfer),

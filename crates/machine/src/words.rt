@@ -85,10 +85,7 @@ impl View {
     {
         match self.leg.transfer {
             Transfer::AwaitIdentify { number, .. } => settle(
-                Leg {
-                    transfer: Transfer::Idle,
-                    ..self.leg
-                },
+                self.idle(),
                 Slot::Transfer,
                 Ended {
                     number,
@@ -107,7 +104,7 @@ impl View {
         }
     }
 
-    // A word that is not for the leg's state leaves it as it is.
+    // A word that is not for the leg's state leaves it as it is. A match, as for the events.
     pub fn told(self, word: Word) -> Result<Reaction, Refusal>
         ensures { result ≡ told_word self.leg self.at word self.next }
     {

@@ -17,14 +17,14 @@ fn used(row: &[u8; 16]) -> Option<u8>
 }
 
 impl Message {
-    // The number of the operation, 0 where there is none.
+    // The number of the operation, 0 where there is none: the byte of the row, so no Option.
     pub fn operation_number(&self) -> u8
         ensures { result ≡ operation_byte self.now.operation }
     {
         self.operation.map_or(0, u8::from)
     }
 
-    // The number of the error code, 0 where there is none.
+    // The number of the error code, 0 where there is none: the byte of the row, so no Option.
     pub fn error_number(&self) -> u8
         ensures { result ≡ error_byte self.now.error }
     {
@@ -79,6 +79,7 @@ impl Message {
         let carrier = Carrier::try_from(row[0]).map_err(|_| MessageFault { byte: 0 })?;
         let kind = Kind::try_from(row[1]).map_err(|_| MessageFault { byte: 1 })?;
         let message = Message::meant(carrier, kind, row);
+        // not by `map_or`, in which the fault would stand behind the message
         match message.first_wrong(row) {
             Some(byte) => Err(MessageFault { byte }),
             None => Ok(message),
@@ -93,7 +94,8 @@ impl Message {
         Message::judge_row(row)
     }
 
-    // The message that a row means, or its first wrong byte. What is accepted is lawful, and is the row that is written of it.
+    // The message that a row means, or its first wrong byte. Not `TryFrom`, nor `From` for `write`: a row is read and written, by these names.
+    // What is accepted is lawful, and is the row that is written of it.
     pub fn read(bytes: &[u8]) -> Result<Message, MessageFault>
         ensures verdict { result ≡ verdict bytes.now }
         ensures accepted { IfOk result (λ m. Lawful m × (bytes.now ≡ row_of m)) }

@@ -35,3 +35,10 @@ fn other_lengths(rt: HostRuntime) {
         }
     }
 }
+
+// What stands in a place that holds nothing is the bare RELEASE COMPLETE of leg 0.
+#[test]
+fn default_is_bare(rt: HostRuntime) {
+    let row = [5, 0, 0, 0, 0, 0, 0, 0, 0, 0, 0, 0, 0, 0, 0, 0];
+    assert_eq!(rt; Message::default().write(), row);
+}

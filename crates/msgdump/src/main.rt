@@ -56,11 +56,9 @@ fn run(rt: &HostRuntime) -> io::Result<()> {
 }
 
 fn main(rt: HostRuntime) -> io::Result<()> {
-    match run(&rt) {
-        Ok(()) => Ok(()),
-        Err(error) => {
-            eprintln!(rt; "msgdump: {error}")?;
-            Err(error)
-        }
+    if let Err(error) = run(&rt) {
+        eprintln!(rt; "msgdump: {error}")?;
+        return Err(error);
     }
+    Ok(())
 }

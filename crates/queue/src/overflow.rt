@@ -72,7 +72,7 @@ impl<Q: Queue> Queue for OverflowQueue<Q> {
     }
 }
 
-// Moves the first of the own down, if there is one and the queue below has a place for it; says whether it did.
+// Moves the first of the own down, if there is one and the queue below has a place for it; says whether it did, for its contract.
 fn refill<Q: Queue>(below: &mut Q, own: &mut Places) -> bool
     ensures kept { Q.capacity below.new ≡ Q.capacity below.old }
     ensures cases { MatchBool result

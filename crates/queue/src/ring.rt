@@ -10,6 +10,8 @@ use std::fmt;
 #[derive(Clone, Copy, PartialEq, Eq, Debug)]
 pub struct WrongSize;
 
+const REFUSAL: u8 = 2;
+
 // The number of this refusal.
 impl From<WrongSize> for u8 {
     ghost from_gives = { λ _ n. n ≡ 2 };
@@ -18,8 +20,6 @@ impl From<WrongSize> for u8 {
         REFUSAL
     }
 }
-
-const REFUSAL: u8 = 2;
 
 impl fmt::Display for WrongSize {
     ghost output = { λ _. Some (codes "a ring stands on 2 to 4,096 records") };
@@ -58,7 +58,7 @@ impl<'a> RingQueue<'a> {
         Ok(())
     }
 
-    // An empty queue on these records.
+    // An empty queue on these records. Not `TryFrom`: what is made is a queue, of which they are the place.
     pub fn new(records: &'a mut [Message]) -> Result<RingQueue<'a>, WrongSize>
         ensures { MatchResult result
             (λ q. (records_of q ≡ records.old) × (ring_waiting q ≡ []) × FitsRing (length records.old))

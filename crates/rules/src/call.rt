@@ -2,7 +2,7 @@
 use leg::record::HoldKind;
 
 // A call with its arguments as the host gives them: any numbers and any bytes, checked by nobody yet.
-#[derive(Clone, Copy, Debug)]
+#[derive(Clone, Copy, PartialEq, Eq, Debug)]
 pub enum Call<'a> {
     Open { leg: u64, peer: u64 },
     Clear { leg: u64 },
