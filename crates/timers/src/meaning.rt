@@ -19,11 +19,11 @@ impl fmt::Display for NoSuchKey {
 
 impl Error for NoSuchKey {}
 
-// A running key with its deadline.
-#[derive(Clone, Copy, PartialEq, Eq, Debug)]
+// A running key with its deadline. The order of the fields is the order in which timers run out.
+#[derive(Clone, Copy, PartialEq, Eq, PartialOrd, Ord, Debug)]
 pub struct Due {
-    pub key: u8,
     pub deadline: u64,
+    pub key: u8,
 }
 
 // For each of the keys 0 to 63 no deadline or one.

@@ -7,7 +7,11 @@ fn searched(plain: &[Option<u64>; 64]) -> Option<Due> {
     (0..64u8)
         .zip(plain)
         .filter_map(|(key, deadline)| deadline.map(|deadline| Due { key, deadline }))
-        .min_by_key(|due| due.deadline)
+        .min()
+}
+
+fn due(key: u8, deadline: u64) -> Option<Due> {
+    Some(Due { key, deadline })
 }
 
 // `turns` sets and stops that look random, with deadlines below `span`, so that many are equal.
@@ -34,46 +38,16 @@ fn edges<T: Timers>(rt: &impl Abort, timers: &mut T) {
     assert_eq!(rt; timers.first(), None);
     assert_eq!(rt; timers.stop(5), Ok(()));
     assert_eq!(rt; timers.set(63, 10), Ok(()));
-    assert_eq!(rt;
-        timers.first(),
-        Some(Due {
-            key: 63,
-            deadline: 10,
-        })
-    );
+    assert_eq!(rt; timers.first(), due(63, 10));
     assert_eq!(rt; timers.set(0, 10), Ok(()));
-    assert_eq!(rt;
-        timers.first(),
-        Some(Due {
-            key: 0,
-            deadline: 10,
-        })
-    );
+    assert_eq!(rt; timers.first(), due(0, 10));
     assert_eq!(rt; timers.set(0, 11), Ok(()));
-    assert_eq!(rt;
-        timers.first(),
-        Some(Due {
-            key: 63,
-            deadline: 10,
-        })
-    );
+    assert_eq!(rt; timers.first(), due(63, 10));
     assert_eq!(rt; timers.set(64, 1), Err(NoSuchKey));
     assert_eq!(rt; timers.stop(255), Err(NoSuchKey));
-    assert_eq!(rt;
-        timers.first(),
-        Some(Due {
-            key: 63,
-            deadline: 10,
-        })
-    );
+    assert_eq!(rt; timers.first(), due(63, 10));
     assert_eq!(rt; timers.stop(63), Ok(()));
-    assert_eq!(rt;
-        timers.first(),
-        Some(Due {
-            key: 0,
-            deadline: 11,
-        })
-    );
+    assert_eq!(rt; timers.first(), due(0, 11));
     assert_eq!(rt; timers.stop(0), Ok(()));
     assert_eq!(rt; timers.first(), None);
 }

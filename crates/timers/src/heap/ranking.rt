@@ -54,6 +54,6 @@ impl Heap {
         let b = self.links.key_at(j);
         let x = self.deadline_of(a);
         let y = self.deadline_of(b);
-        x < y || (x == y && a.index < b.index)
+        (x, a.index) < (y, b.index)
     }
 }
