@@ -15,11 +15,11 @@ root_least : (R : ℕ → ℕ) (n : ℕ) → Ordered R n → (m i : ℕ) → i �
 root_least R n h zero i u l = grind arith
 root_least R n h (suc m) i u l = grind (arith, root_least R n h m ((i - 1) / 2))
 
-pub heap_first : (h : Heap) (key at : ℕ) → Ordered (rank_in h) h.count → 0 < h.count → key < 64 → key ≡ get_or h.links.keys 0 0 → at ≡ get_or h.deadlines key 0 → First (deadlines_in h) key at
-heap_first h key at order p low e d =
+pub heap_first : (h : Heap) (key at : ℕ) → Ordered (rank_in h) h.count → 0 < h.count → key ≡ get_or h.links.keys 0 0 → at ≡ get_or h.deadlines key 0 → First (deadlines_in h) key at
+heap_first h key at order p e d =
     let there : place_in h key ≡ 0 = ap (place_in h) e ∙ h.links.linked.there 0 (omega arith) in
     let least = root_least (rank_in h) h.count order in
-    (grind (arith, nat_tests), λ k a s. grind (arith, nat_tests, least (place_in h k) (place_in h k), h.links.linked.back k))
+    (grind (arith, nat_tests, h.links.linked.low 0), λ k a s. grind (arith, nat_tests, least (place_in h k) (place_in h k), h.links.linked.back k))
 
 -- ---- what is meant
 

@@ -63,10 +63,6 @@ impl Timers for HeapTimers {
         if self.heap.count == 0 {
             return None;
         }
-        let key = self.heap.links.key_at(0);
-        Some(Due {
-            key: key.index as u8,
-            deadline: self.heap.deadline_of(key),
-        })
+        Some(self.heap.due_in(0))
     }
 }

@@ -3,6 +3,7 @@ ghost use Rattle.std.specs.Prelude.{◌≡◌, ℕ, ◌<◌, ◌≤◌, length};
 
 use super::links::Links;
 use crate::key::Key;
+use crate::meaning::Due;
 
 // The running keys stand in the places below `count`, and the others in those from there on.
 // The deadlines stand by key, apart from the links, since a key moves with no write to its deadline.
@@ -44,16 +45,25 @@ impl Heap {
         self.links.place_of(key) < self.count
     }
 
+    // The key in place i with its deadline.
+    pub fn due_in(&self, i: usize) -> Due
+        requires { i < 64 }
+        ensures key { result.key ≡ slice_index self.now.links.keys i }
+        ensures deadline { result.deadline ≡ slice_index self.now.deadlines result.key }
+    {
+        let key = self.links.key_at(i);
+        Due {
+            key: key.index as u8,
+            deadline: self.deadline_of(key),
+        }
+    }
+
     // Whether the key in place i comes before the one in place j: by deadline, then key.
     pub fn earlier(&self, i: usize, j: usize) -> bool
         requires i { i < 64 }
         requires j { j < 64 }
         ensures { result ≡ nat_lt (rank_in self.now i) (rank_in self.now j) }
     {
-        let a = self.links.key_at(i);
-        let b = self.links.key_at(j);
-        let x = self.deadline_of(a);
-        let y = self.deadline_of(b);
-        (x, a.index) < (y, b.index)
+        self.due_in(i) < self.due_in(j)
     }
 }

@@ -5,4 +5,5 @@ use Rattle.timers.proofs.heap.HeapTimersTimers.first.Goals as goal
 pub returns : goal.returns
 returns c =
     let s = c.args.self.now in
-    heap_first s.heap _ _ s.order (omega arith) c.key_at-key.result.below c.key_at-key.ensures c.deadline_of.ensures
+    let e = c.due_in.ensures in
+    heap_first s.heap _ _ s.order (omega arith) e.key e.deadline
