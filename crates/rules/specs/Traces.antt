@@ -41,6 +41,25 @@ station = record {
   most = lit≤ tt;
 }
 
+-- a fresh board of a station whose hold T2 differs from its hold T1: 7 ticks
+abbrev pub slow_station : State
+slow_station =
+    fresh
+    (record {
+      own = 200;
+      values = record {
+        ct_t1 = station.values.ct_t1;
+        ct_t2 = station.values.ct_t2;
+        ct_t3 = station.values.ct_t3;
+        ct_t4 = station.values.ct_t4;
+        hold_t1 = station.values.hold_t1;
+        hold_t2 = record { ticks = 7; least = lit≤ tt; most = lit≤ tt };
+      };
+      least = lit≤ tt;
+      most = lit≤ tt;
+    })
+    64
+
 -- the answers to these calls on a fresh board with this capacity
 abbrev pub answers_with : ℕ → List Call → List Answer
 answers_with capacity calls = (runs (fresh station capacity) calls).0

@@ -24,7 +24,8 @@ use Rattle.leg.specs.Views.{free_leg, with_phase, with_transfer, with_holder, wi
 use Rattle.rules.specs.Answers.{Answer, did, taken}
 use Rattle.rules.specs.declared.call.Call.{Call}
 use Rattle.rules.specs.declared.call.Call.TheVariants as call
-use Rattle.rules.specs.Traces.{answers_with, Answers, leg_after, timer_after, heard, with, with_error, release, abandon, noted, done, stray, sends, sends_two, end, ends, sends_ends, refused}
+use Rattle.rules.specs.Runs.{runs}
+use Rattle.rules.specs.Traces.{slow_station, answers_with, Answers, leg_after, timer_after, heard, with, with_error, release, abandon, noted, done, stray, sends, sends_two, end, ends, sends_ends, refused}
 
 abbrev place3 : Place
 place3 = record { index = 3; below = ltb-true 3 32 refl }
@@ -179,11 +180,18 @@ AskedOn3 =
     (Answers asked_on3 asked_sent)
     × (leg_after asked_on3 3 ≡ with_transfer (idle 300) (transfer.Asked asked))
 
+-- a second invoke, number 10 with identity 78 at address 401
+abbrev second_heard : Call
+second_heard = heard (with Facility Invoke CallTransferInitiate 3 10 78 401)
+
+abbrev second_fails : Answer
+second_fails = sends (with_error Facility CallTransferInitiate 3 10 error.Unspecified)
+
 -- a second invoke while one is owed gets an error, and the first stays owed
 abbrev pub AskedTwice : Type 0
 AskedTwice =
-    (Answers (asked_on3 ++ heard (initiate_heard 9) ∷ []) (asked_sent ++ sends (with_error Facility CallTransferInitiate 3 9 error.Unspecified) ∷ []))
-    × (leg_after (asked_on3 ++ heard (initiate_heard 9) ∷ []) 3 ≡ with_transfer (idle 300) (transfer.Asked asked))
+    (Answers (asked_on3 ++ second_heard ∷ []) (asked_sent ++ second_fails ∷ []))
+    × (leg_after (asked_on3 ++ second_heard ∷ []) 3 ≡ with_transfer (idle 300) (transfer.Asked asked))
 
 -- the host declines
 abbrev pub AskedDeclined : Type 0
@@ -201,6 +209,10 @@ placed_sent = asked_sent ++ sends (with Setup Invoke CallTransferSetup 4 1 77 20
 abbrev calling : Leg
 calling = record { phase = phase.Calling; peer = 400; transfer = transfer.AwaitSetupResponse 1 place3; holder = holder.Idle; held = None }
 
+-- what leg 3 is owed, once the call has come about
+abbrev initiate_done : Message
+initiate_done = with ReleaseComplete Result CallTransferInitiate 3 9 0 0
+
 abbrev pub PlacedOn4 : Type 0
 PlacedOn4 =
     (Answers placed_on4 placed_sent)
@@ -208,12 +220,17 @@ PlacedOn4 =
     × (leg_after placed_on4 4 ≡ calling)
     × (timer_after placed_on4 8 ≡ Some 25)
 
+-- a second invoke while the call on behalf of the first is placed gets an error too, and the first is what leg 4 calls for and what is owed
+abbrev pub AskedWhilePlacing : Type 0
+AskedWhilePlacing =
+    (Answers (placed_on4 ++ second_heard ∷ heard (with Alerting Result CallTransferSetup 4 1 0 0) ∷ []) (placed_sent ++ second_fails ∷ sends_ends initiate_done 1 cause.Result ∷ []))
+    × (leg_after (placed_on4 ++ second_heard ∷ []) 3 ≡ with_transfer (idle 300) (transfer.Bound (bond.Placing place4 asked)))
+    × (leg_after (placed_on4 ++ second_heard ∷ []) 4 ≡ calling)
+    × (timer_after (placed_on4 ++ second_heard ∷ []) 8 ≡ Some 25)
+
 -- it alerts with the result: the transfer is done for leg 3, and leg 4 goes on; then it is answered
 abbrev pub placed_done : List Call
 placed_done = placed_on4 ++ heard (with Alerting Result CallTransferSetup 4 1 0 0) ∷ []
-
-abbrev initiate_done : Message
-initiate_done = with ReleaseComplete Result CallTransferInitiate 3 9 0 0
 
 abbrev pub PlacedDone : Type 0
 PlacedDone =
@@ -303,7 +320,6 @@ SetupRings =
 
 -- ---- hold
 
--- leg 3 is put on hold at its far end
 abbrev pub held_at_far_end : List Call
 held_at_far_end = call.Open 3 300 ∷ call.Hold 3 hold.Remote ∷ heard (with Facility Result RemoteHold 3 1 0 0) ∷ []
 
@@ -313,19 +329,50 @@ hold_sent = done ∷ sends (with Facility Invoke RemoteHold 3 1 0 0) ∷ ends 1 
 abbrev retrieve_sent : Answer
 retrieve_sent = sends (with Facility Invoke RemoteRetrieve 3 2 0 0)
 
--- and is fetched back
+-- leg 3 is put on hold at its far end and fetched back: its hold timer runs while the one is asked for, and again while the other is
 abbrev pub HoldAndRetrieve : Type 0
 HoldAndRetrieve =
     (Answers (held_at_far_end ++ call.Retrieve 3 ∷ heard (with Facility Result RemoteRetrieve 3 2 0 0) ∷ []) (hold_sent ++ retrieve_sent ∷ ends 2 cause.Result ∷ []))
+    × (leg_after (call.Open 3 300 ∷ call.Hold 3 hold.Remote ∷ []) 3 ≡ with_holder (idle 300) (holder.RemoteRequested 1))
+    × (timer_after (call.Open 3 300 ∷ call.Hold 3 hold.Remote ∷ []) 7 ≡ Some 5)
     × (leg_after held_at_far_end 3 ≡ with_holder (idle 300) holder.RemoteHolding)
+    × (timer_after held_at_far_end 7 ≡ None)
+    × (leg_after (held_at_far_end ++ call.Retrieve 3 ∷ []) 3 ≡ with_holder (idle 300) (holder.RetrieveRequested 2))
     × (timer_after (held_at_far_end ++ call.Retrieve 3 ∷ []) 7 ≡ Some 5)
     × (leg_after (held_at_far_end ++ call.Retrieve 3 ∷ heard (with Facility Result RemoteRetrieve 3 2 0 0) ∷ []) 3 ≡ idle 300)
+    × (timer_after (held_at_far_end ++ call.Retrieve 3 ∷ heard (with Facility Result RemoteRetrieve 3 2 0 0) ∷ []) 7 ≡ None)
 
 -- the retrieve gets no answer: the call is released
 abbrev pub RetrieveLapses : Type 0
 RetrieveLapses =
     (Answers (held_at_far_end ++ call.Retrieve 3 ∷ call.Tick 5 ∷ []) (hold_sent ++ retrieve_sent ∷ sends_ends (release 3) 2 cause.Timeout ∷ []))
     × (leg_after (held_at_far_end ++ call.Retrieve 3 ∷ call.Tick 5 ∷ []) 3 ≡ free_leg)
+    × (timer_after (held_at_far_end ++ call.Retrieve 3 ∷ call.Tick 5 ∷ []) 7 ≡ None)
+
+-- the same later on: the hold is asked for at 2
+abbrev held_later : List Call
+held_later = call.Open 3 300 ∷ call.Tick 2 ∷ call.Hold 3 hold.Remote ∷ []
+
+-- it is done at 4, and fetched back from 10
+abbrev retrieved_later : List Call
+retrieved_later = held_later ++ call.Tick 4 ∷ heard (with Facility Result RemoteHold 3 1 0 0) ∷ call.Tick 10 ∷ call.Retrieve 3 ∷ []
+
+-- with a hold T1 of 5 ticks and a hold T2 of 7, the hold has until 7, and the retrieve until 17
+abbrev pub HoldTimers : Type 0
+HoldTimers =
+    ((runs slow_station held_later).1.deadlines 7 ≡ Some 7)
+    × ((runs slow_station (held_later ++ call.Tick 4 ∷ heard (with Facility Result RemoteHold 3 1 0 0) ∷ [])).1.deadlines 7 ≡ None)
+    × ((runs slow_station retrieved_later).1.deadlines 7 ≡ Some 17)
+    × ((runs slow_station (retrieved_later ++ call.Tick 16 ∷ call.Tick 17 ∷ [])).0 ≡
+    (done ∷ noted note.NoneDue ∷ sends (with Facility Invoke RemoteHold 3 1 0 0) ∷ noted note.NoneDue ∷ ends 1 cause.Result ∷ noted note.NoneDue ∷ retrieve_sent ∷ noted note.NoneDue ∷ sends_ends (release 3) 2 cause.Timeout ∷ []))
+
+-- the hold gets no answer: there is no hold
+abbrev pub HoldLapses : Type 0
+HoldLapses =
+    (Answers (held_later ++ call.Tick 6 ∷ call.Tick 7 ∷ call.Retrieve 3 ∷ [])
+    (done ∷ noted note.NoneDue ∷ sends (with Facility Invoke RemoteHold 3 1 0 0) ∷ noted note.NoneDue ∷ ends 1 cause.Timeout ∷ refused refusal.WrongState ∷ []))
+    × (leg_after (held_later ++ call.Tick 7 ∷ []) 3 ≡ idle 300)
+    × (timer_after (held_later ++ call.Tick 7 ∷ []) 7 ≡ None)
 
 -- both ends ask at once: this end, which asked, answers with error 5; and once it is held itself, with error 4
 abbrev pub HoldGlare : Type 0
@@ -366,8 +413,20 @@ abbrev pub TakesInOrder : Type 0
 TakesInOrder =
     Answers (consult_identified ++ call.Take ∷ call.Take ∷ call.Take ∷ []) (identified_sent ++ taken identify_on4 ∷ taken initiate_on3 ∷ noted note.QueueEmpty ∷ [])
 
--- two timers that are due at once run out one at a call, the smaller key first: leg 3's transfer, then leg 4's hold
+-- the hold timers of legs 4 and 3 are both past when time moves on: they run out one at a call, the smaller deadline first though its key is the larger
 abbrev pub OneTimerAtACall : Type 0
 OneTimerAtACall =
     Answers (call.Open 3 300 ∷ call.Open 4 400 ∷ call.Hold 4 hold.Remote ∷ call.Tick 4 ∷ call.Hold 3 hold.Remote ∷ call.Tick 9 ∷ call.Tick 9 ∷ call.Tick 9 ∷ [])
     (done ∷ done ∷ sends (with Facility Invoke RemoteHold 4 1 0 0) ∷ noted note.NoneDue ∷ sends (with Facility Invoke RemoteHold 3 2 0 0) ∷ ends 1 cause.Timeout ∷ ends 2 cause.Timeout ∷ noted note.NoneDue ∷ [])
+
+-- a transfer timer of leg 4 and a hold timer of leg 3 have the deadline 30: leg 3's runs out first, which has the smaller key, though it was set last and belongs to hold
+abbrev pub EqualDeadlines : Type 0
+EqualDeadlines =
+    Answers (call.Open 3 300 ∷ call.Open 4 400 ∷ call.Transfer 4 500 ∷ call.Tick 25 ∷ call.Hold 3 hold.Remote ∷ call.Tick 30 ∷ call.Tick 30 ∷ call.Tick 30 ∷ [])
+    (done ∷ done ∷ sends (with Facility Invoke CallTransferInitiate 4 1 0 500) ∷ noted note.NoneDue ∷ sends (with Facility Invoke RemoteHold 3 2 0 0) ∷ ends 2 cause.Timeout ∷ ends 1 cause.Timeout ∷ noted note.NoneDue ∷ [])
+
+-- both timers of leg 3 have the deadline 30: the transfer's, which has the smaller key, runs out first
+abbrev pub EqualDeadlinesOfALeg : Type 0
+EqualDeadlinesOfALeg =
+    Answers (call.Open 3 300 ∷ call.Transfer 3 400 ∷ call.Tick 25 ∷ call.Hold 3 hold.Remote ∷ call.Tick 30 ∷ call.Tick 30 ∷ [])
+    (done ∷ sends transfer_invoke ∷ noted note.NoneDue ∷ sends (with Facility Invoke RemoteHold 3 2 0 0) ∷ ends 1 cause.Timeout ∷ ends 2 cause.Timeout ∷ [])

@@ -1,5 +1,5 @@
 // Worked cases, each the contract of a function that does nothing.
-ghost use Rattle.rules.specs.Worked.{TransferSends, TransferLapses, TransferDone, ReleaseMatches, ReleaseOther, ConsultSends, ConsultIdentified, ConsultFails, ConsultDone, ConsultUnanswered, PrimaryLostConsulting, PrimaryLostInitiating, SecondaryLost, AskedOn3, AskedTwice, AskedDeclined, PlacedOn4, PlacedDone, PlacedLapses, PlacedFails, PrimaryLostPlacing, IdentityGiven, SetupMet, SetupFails, SetupNeedsTwo, SetupLapses, SetupRings, HoldAndRetrieve, RetrieveLapses, HoldGlare, HeldHere, HoldNear, TimeAndLegs, TakesInOrder, OneTimerAtACall};
+ghost use Rattle.rules.specs.Worked.{TransferSends, TransferLapses, TransferDone, ReleaseMatches, ReleaseOther, ConsultSends, ConsultIdentified, ConsultFails, ConsultDone, ConsultUnanswered, PrimaryLostConsulting, PrimaryLostInitiating, SecondaryLost, AskedOn3, AskedTwice, AskedDeclined, PlacedOn4, AskedWhilePlacing, PlacedDone, PlacedLapses, PlacedFails, PrimaryLostPlacing, IdentityGiven, SetupMet, SetupFails, SetupNeedsTwo, SetupLapses, SetupRings, HoldAndRetrieve, RetrieveLapses, HoldTimers, HoldLapses, HoldGlare, HeldHere, HoldNear, TimeAndLegs, TakesInOrder, OneTimerAtACall, EqualDeadlines, EqualDeadlinesOfALeg};
 
 // Transfer without consultation, at the end that transfers.
 pub fn transfers_stand()
@@ -28,6 +28,7 @@ pub fn placed_calls_stand()
     ensures asked_twice { AskedTwice }
     ensures asked_declined { AskedDeclined }
     ensures placed_on_4 { PlacedOn4 }
+    ensures asked_while_placing { AskedWhilePlacing }
     ensures placed_done { PlacedDone }
     ensures placed_lapses { PlacedLapses }
     ensures placed_fails { PlacedFails }
@@ -48,6 +49,8 @@ pub fn setups_stand()
 pub fn holds_stand()
     ensures hold_and_retrieve { HoldAndRetrieve }
     ensures retrieve_lapses { RetrieveLapses }
+    ensures hold_timers { HoldTimers }
+    ensures hold_lapses { HoldLapses }
     ensures hold_glare { HoldGlare }
     ensures held_here { HeldHere }
     ensures hold_near { HoldNear }
@@ -58,4 +61,6 @@ pub fn bounds_stand()
     ensures time_and_legs { TimeAndLegs }
     ensures takes_in_order { TakesInOrder }
     ensures one_timer_at_a_call { OneTimerAtACall }
+    ensures equal_deadlines { EqualDeadlines }
+    ensures equal_deadlines_of_a_leg { EqualDeadlinesOfALeg }
 {}
