@@ -42,8 +42,8 @@ station = record {
 }
 
 -- a fresh board of a station whose hold T2 differs from its hold T1: 7 ticks
-abbrev pub slow_station : State
-slow_station =
+abbrev pub slow_board : State
+slow_board =
     fresh
     (record {
       own = 200;

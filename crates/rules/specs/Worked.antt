@@ -25,7 +25,7 @@ use Rattle.rules.specs.Answers.{Answer, did, taken}
 use Rattle.rules.specs.declared.call.Call.{Call}
 use Rattle.rules.specs.declared.call.Call.TheVariants as call
 use Rattle.rules.specs.Runs.{runs}
-use Rattle.rules.specs.Traces.{slow_station, answers_with, Answers, leg_after, timer_after, heard, with, with_error, release, abandon, noted, done, stray, sends, sends_two, end, ends, sends_ends, refused}
+use Rattle.rules.specs.Traces.{slow_board, answers_with, Answers, leg_after, timer_after, heard, with, with_error, release, abandon, noted, done, stray, sends, sends_two, end, ends, sends_ends, refused}
 
 abbrev place3 : Place
 place3 = record { index = 3; below = ltb-true 3 32 refl }
@@ -114,6 +114,16 @@ ConsultIdentified =
     × (timer_after consult_identified 8 ≡ None)
     × (timer_after consult_identified 6 ≡ Some 30)
 
+-- the consulted station is to be met at 401, which is not where leg 4 called: that is where the transfer is asked to go, and no peer changes
+abbrev pub identified_elsewhere : List Call
+identified_elsewhere = consult_of3 ++ heard (with Facility Result CallTransferIdentify 4 1 78 401) ∷ []
+
+abbrev pub IdentifiedElsewhere : Type 0
+IdentifiedElsewhere =
+    (Answers identified_elsewhere (consult_sent ++ sends_ends (with Facility Invoke CallTransferInitiate 3 2 78 401) 1 cause.Result ∷ []))
+    × (leg_after identified_elsewhere 3 ≡ with_transfer (idle 300) (transfer.AwaitInitiate 2 (Some place4)))
+    × (leg_after identified_elsewhere 4 ≡ with_transfer (idle 400) (transfer.Bound (bond.Consulted place3)))
+
 -- an error for the transfer: the consulted station is told not to wait, and both legs are as before
 abbrev pub consult_fails : List Call
 consult_fails = consult_identified ++ heard (with_error Facility CallTransferInitiate 3 2 error.EstablishmentFailure) ∷ []
@@ -198,6 +208,14 @@ abbrev pub AskedDeclined : Type 0
 AskedDeclined =
     (Answers (asked_on3 ++ call.Decline 3 ∷ []) (asked_sent ++ sends (with_error Facility CallTransferInitiate 3 9 error.Unspecified) ∷ []))
     × (leg_after (asked_on3 ++ call.Decline 3 ∷ []) 3 ≡ idle 300)
+
+-- the leg is lost before the host decides: what it owes is dropped, and there is nothing to decline or to place any more, also on the next call of that leg
+abbrev pub AskedAndLost : Type 0
+AskedAndLost =
+    (Answers (asked_on3 ++ heard (release 3) ∷ call.Decline 3 ∷ call.Place 3 4 ∷ call.Open 3 300 ∷ call.Decline 3 ∷ call.Place 3 4 ∷ [])
+    (asked_sent ++ done ∷ refused refusal.LegFree ∷ refused refusal.LegFree ∷ done ∷ refused refusal.WrongState ∷ refused refusal.WrongState ∷ []))
+    × (leg_after (asked_on3 ++ heard (release 3) ∷ []) 3 ≡ free_leg)
+    × (Answers (asked_on3 ++ call.Clear 3 ∷ []) (asked_sent ++ sends (release 3) ∷ []))
 
 -- the host places the call
 abbrev pub placed_on4 : List Call
@@ -318,6 +336,19 @@ SetupRings =
     × (Answers (setup_on7 0 ∷ call.Decline 7 ∷ []) (noted note.Ringing ∷ sends (with_error ReleaseComplete CallTransferSetup 7 1 error.Unspecified) ∷ []))
     × (leg_after (setup_on7 0 ∷ call.Decline 7 ∷ []) 7 ≡ free_leg)
 
+-- a SETUP on leg 7 from 300 with number 12, which is none of this station's
+abbrev setup_numbered : ℕ → Call
+setup_numbered i = heard (with Setup Invoke CallTransferSetup 7 12 i 300)
+
+-- the answer to a SETUP has the number of the SETUP: when it is met, when it fails, and when it rings and is accepted or declined
+abbrev pub SetupNumbered : Type 0
+SetupNumbered =
+    (Answers (identified_on5 ++ setup_numbered 6 ∷ []) (done ∷ sends identify_result ∷ sends_two (with Connect Result CallTransferSetup 7 12 0 0) (release 5) ∷ []))
+    × (Answers (identified_on5 ++ setup_numbered 8 ∷ []) (done ∷ sends identify_result ∷ sends (with_error ReleaseComplete CallTransferSetup 7 12 error.UnrecognizedCallIdentity) ∷ []))
+    × (leg_after (setup_numbered 0 ∷ []) 7 ≡ with_phase (idle 300) (phase.Ringing (record { number = 12; identity = 0; address = 300 })))
+    × (Answers (setup_numbered 0 ∷ call.Accept 7 ∷ []) (noted note.Ringing ∷ sends (with Connect Result CallTransferSetup 7 12 0 0) ∷ []))
+    × (Answers (setup_numbered 0 ∷ call.Decline 7 ∷ []) (noted note.Ringing ∷ sends (with_error ReleaseComplete CallTransferSetup 7 12 error.Unspecified) ∷ []))
+
 -- ---- hold
 
 abbrev pub held_at_far_end : List Call
@@ -360,10 +391,10 @@ retrieved_later = held_later ++ call.Tick 4 ∷ heard (with Facility Result Remo
 -- with a hold T1 of 5 ticks and a hold T2 of 7, the hold has until 7, and the retrieve until 17
 abbrev pub HoldTimers : Type 0
 HoldTimers =
-    ((runs slow_station held_later).1.deadlines 7 ≡ Some 7)
-    × ((runs slow_station (held_later ++ call.Tick 4 ∷ heard (with Facility Result RemoteHold 3 1 0 0) ∷ [])).1.deadlines 7 ≡ None)
-    × ((runs slow_station retrieved_later).1.deadlines 7 ≡ Some 17)
-    × ((runs slow_station (retrieved_later ++ call.Tick 16 ∷ call.Tick 17 ∷ [])).0 ≡
+    ((runs slow_board held_later).1.deadlines 7 ≡ Some 7)
+    × ((runs slow_board (held_later ++ call.Tick 4 ∷ heard (with Facility Result RemoteHold 3 1 0 0) ∷ [])).1.deadlines 7 ≡ None)
+    × ((runs slow_board retrieved_later).1.deadlines 7 ≡ Some 17)
+    × ((runs slow_board (retrieved_later ++ call.Tick 16 ∷ call.Tick 17 ∷ [])).0 ≡
     (done ∷ noted note.NoneDue ∷ sends (with Facility Invoke RemoteHold 3 1 0 0) ∷ noted note.NoneDue ∷ ends 1 cause.Result ∷ noted note.NoneDue ∷ retrieve_sent ∷ noted note.NoneDue ∷ sends_ends (release 3) 2 cause.Timeout ∷ []))
 
 -- the hold gets no answer: there is no hold
@@ -401,6 +432,86 @@ HoldNear =
     × (Answers (call.Open 3 300 ∷ heard (with Facility Invoke HoldNotific 3 0 0 0) ∷ heard (with Facility Invoke RetrieveNotific 3 0 0 0) ∷ [])
     (done ∷ noted note.Held ∷ noted note.Retrieved ∷ []))
 
+-- ---- hold while a transfer goes on: an answer may have two ends
+
+-- leg 3 asks for its hold, and then for its transfer
+abbrev hold_and_transfer : List Call
+hold_and_transfer = call.Open 3 300 ∷ call.Hold 3 hold.Remote ∷ call.Transfer 3 400 ∷ []
+
+abbrev hold_and_transfer_sent : List Answer
+hold_and_transfer_sent = done ∷ sends (with Facility Invoke RemoteHold 3 1 0 0) ∷ sends (with Facility Invoke CallTransferInitiate 3 2 0 400) ∷ []
+
+-- the leg is lost: the transfer's request ends before the hold's, though it was sent later
+abbrev pub BothCleared : Type 0
+BothCleared =
+    (Answers (hold_and_transfer ++ call.Clear 3 ∷ []) (hold_and_transfer_sent ++ did note.Done (few.One (release 3)) (few.Two (end 2 cause.Cleared) (end 1 cause.Cleared)) ∷ []))
+    × (Answers (hold_and_transfer ++ heard (release 3) ∷ []) (hold_and_transfer_sent ++ did note.Done few.Zero (few.Two (end 2 cause.Cleared) (end 1 cause.Cleared)) ∷ []))
+    × (leg_after (hold_and_transfer ++ call.Clear 3 ∷ []) 3 ≡ free_leg)
+    × (timer_after (hold_and_transfer ++ call.Clear 3 ∷ []) 6 ≡ None)
+    × (timer_after (hold_and_transfer ++ call.Clear 3 ∷ []) 7 ≡ None)
+
+-- the transfer is done: its request ends by result, and the hold's as cleared with the leg
+abbrev pub DoneWhileHolding : Type 0
+DoneWhileHolding =
+    (Answers (hold_and_transfer ++ heard (with Facility Result CallTransferInitiate 3 2 0 0) ∷ [])
+    (hold_and_transfer_sent ++ did note.Done (few.One (release 3)) (few.Two (end 2 cause.Result) (end 1 cause.Cleared)) ∷ []))
+    × (Answers (hold_and_transfer ++ heard (with ReleaseComplete Result CallTransferInitiate 3 2 0 0) ∷ [])
+    (hold_and_transfer_sent ++ did note.Done few.Zero (few.Two (end 2 cause.Result) (end 1 cause.Cleared)) ∷ []))
+    × (timer_after (hold_and_transfer ++ heard (with Facility Result CallTransferInitiate 3 2 0 0) ∷ []) 7 ≡ None)
+
+-- the call cannot be fetched back while its transfer goes on: the retrieve's end, which the step names, goes before the transfer's
+abbrev retrieve_and_transfer : List Call
+retrieve_and_transfer = held_at_far_end ++ call.Retrieve 3 ∷ call.Transfer 3 400 ∷ []
+
+abbrev retrieve_and_transfer_sent : List Answer
+retrieve_and_transfer_sent = hold_sent ++ retrieve_sent ∷ sends (with Facility Invoke CallTransferInitiate 3 3 0 400) ∷ []
+
+abbrev pub RetrieveFailsTransferring : Type 0
+RetrieveFailsTransferring =
+    (Answers (retrieve_and_transfer ++ call.Tick 5 ∷ []) (retrieve_and_transfer_sent ++ did note.Done (few.One (release 3)) (few.Two (end 2 cause.Timeout) (end 3 cause.Cleared)) ∷ []))
+    × (Answers (retrieve_and_transfer ++ heard (with_error Facility RemoteRetrieve 3 2 error.InvalidCallState) ∷ [])
+    (retrieve_and_transfer_sent ++ did note.Done (few.One (release 3)) (few.Two (end 2 cause.Fault) (end 3 cause.Cleared)) ∷ []))
+    × (leg_after (retrieve_and_transfer ++ call.Tick 5 ∷ []) 3 ≡ free_leg)
+    × (timer_after (retrieve_and_transfer ++ call.Tick 5 ∷ []) 6 ≡ None)
+
+-- primary and secondary of a consultation both ask for a hold, and the primary is lost: its hold's end goes before that of the identify on the secondary, whose own hold goes on
+abbrev consult_and_hold : List Call
+consult_and_hold = consult_of3 ++ call.Hold 3 hold.Remote ∷ call.Hold 4 hold.Remote ∷ []
+
+abbrev consult_and_hold_sent : List Answer
+consult_and_hold_sent = consult_sent ++ sends (with Facility Invoke RemoteHold 3 2 0 0) ∷ sends (with Facility Invoke RemoteHold 4 3 0 0) ∷ []
+
+abbrev pub HoldingPrimaryLost : Type 0
+HoldingPrimaryLost =
+    (Answers (consult_and_hold ++ call.Clear 3 ∷ []) (consult_and_hold_sent ++ did note.Done (few.Two (release 3) (abandon 4)) (few.Two (end 2 cause.Cleared) (end 1 cause.Cleared)) ∷ []))
+    × (Answers (consult_and_hold ++ heard (release 3) ∷ []) (consult_and_hold_sent ++ did note.Done (few.One (abandon 4)) (few.Two (end 2 cause.Cleared) (end 1 cause.Cleared)) ∷ []))
+    × (leg_after (consult_and_hold ++ call.Clear 3 ∷ []) 4 ≡ with_holder (idle 400) (holder.RemoteRequested 3))
+    × (timer_after (consult_and_hold ++ call.Clear 3 ∷ []) 7 ≡ None)
+    × (timer_after (consult_and_hold ++ call.Clear 3 ∷ []) 8 ≡ None)
+    × (timer_after (consult_and_hold ++ call.Clear 3 ∷ []) 9 ≡ Some 5)
+
+-- the primary of a placed call asks for a hold; the call comes about, or the primary is cleared
+abbrev place_and_hold : List Call
+place_and_hold = placed_on4 ++ call.Hold 3 hold.Remote ∷ []
+
+abbrev place_and_hold_sent : List Answer
+place_and_hold_sent = placed_sent ++ sends (with Facility Invoke RemoteHold 3 2 0 0) ∷ []
+
+abbrev pub HoldingPrimaryDone : Type 0
+HoldingPrimaryDone =
+    (Answers (place_and_hold ++ heard (with Alerting Result CallTransferSetup 4 1 0 0) ∷ [])
+    (place_and_hold_sent ++ did note.Done (few.One initiate_done) (few.Two (end 1 cause.Result) (end 2 cause.Cleared)) ∷ []))
+    × (Answers (place_and_hold ++ call.Clear 3 ∷ []) (place_and_hold_sent ++ did note.Done (few.Two (release 3) (release 4)) (few.Two (end 2 cause.Cleared) (end 1 cause.Cleared)) ∷ []))
+    × (timer_after (place_and_hold ++ heard (with Alerting Result CallTransferSetup 4 1 0 0) ∷ []) 7 ≡ None)
+
+-- the leg that awaits a set-up asks for a hold, and the set-up comes: the hold's request ends with the leg
+abbrev pub SetupMetHolding : Type 0
+SetupMetHolding =
+    (Answers (identified_on5 ++ call.Hold 5 hold.Remote ∷ setup_on7 6 ∷ [])
+    (done ∷ sends identify_result ∷ sends (with Facility Invoke RemoteHold 5 1 0 0)
+    ∷ did note.Done (few.Two (with Connect Result CallTransferSetup 7 1 0 0) (release 5)) (few.One (end 1 cause.Cleared)) ∷ []))
+    × (timer_after (identified_on5 ++ call.Hold 5 hold.Remote ∷ setup_on7 6 ∷ []) 11 ≡ None)
+
 -- ---- time, legs and the queue
 
 abbrev pub TimeAndLegs : Type 0
@@ -413,7 +524,7 @@ abbrev pub TakesInOrder : Type 0
 TakesInOrder =
     Answers (consult_identified ++ call.Take ∷ call.Take ∷ call.Take ∷ []) (identified_sent ++ taken identify_on4 ∷ taken initiate_on3 ∷ noted note.QueueEmpty ∷ [])
 
--- the hold timers of legs 4 and 3 are both past when time moves on: they run out one at a call, the smaller deadline first though its key is the larger
+-- the hold timers of legs 4 and 3 are both due when time moves on: they run out one at a call, the smaller deadline first though its key is the larger
 abbrev pub OneTimerAtACall : Type 0
 OneTimerAtACall =
     Answers (call.Open 3 300 ∷ call.Open 4 400 ∷ call.Hold 4 hold.Remote ∷ call.Tick 4 ∷ call.Hold 3 hold.Remote ∷ call.Tick 9 ∷ call.Tick 9 ∷ call.Tick 9 ∷ [])

@@ -1,5 +1,5 @@
 // Worked cases, each the contract of a function that does nothing.
-ghost use Rattle.rules.specs.Worked.{TransferSends, TransferLapses, TransferDone, ReleaseMatches, ReleaseOther, ConsultSends, ConsultIdentified, ConsultFails, ConsultDone, ConsultUnanswered, PrimaryLostConsulting, PrimaryLostInitiating, SecondaryLost, AskedOn3, AskedTwice, AskedDeclined, PlacedOn4, AskedWhilePlacing, PlacedDone, PlacedLapses, PlacedFails, PrimaryLostPlacing, IdentityGiven, SetupMet, SetupFails, SetupNeedsTwo, SetupLapses, SetupRings, HoldAndRetrieve, RetrieveLapses, HoldTimers, HoldLapses, HoldGlare, HeldHere, HoldNear, TimeAndLegs, TakesInOrder, OneTimerAtACall, EqualDeadlines, EqualDeadlinesOfALeg};
+ghost use Rattle.rules.specs.Worked.{TransferSends, TransferLapses, TransferDone, ReleaseMatches, ReleaseOther, ConsultSends, ConsultIdentified, IdentifiedElsewhere, ConsultFails, ConsultDone, ConsultUnanswered, PrimaryLostConsulting, PrimaryLostInitiating, SecondaryLost, AskedOn3, AskedTwice, AskedDeclined, AskedAndLost, PlacedOn4, AskedWhilePlacing, PlacedDone, PlacedLapses, PlacedFails, PrimaryLostPlacing, IdentityGiven, SetupMet, SetupFails, SetupNeedsTwo, SetupLapses, SetupRings, SetupNumbered, HoldAndRetrieve, RetrieveLapses, HoldTimers, HoldLapses, HoldGlare, HeldHere, HoldNear, BothCleared, DoneWhileHolding, RetrieveFailsTransferring, HoldingPrimaryLost, HoldingPrimaryDone, SetupMetHolding, TimeAndLegs, TakesInOrder, OneTimerAtACall, EqualDeadlines, EqualDeadlinesOfALeg};
 
 // Transfer without consultation, at the end that transfers.
 pub fn transfers_stand()
@@ -14,6 +14,7 @@ pub fn transfers_stand()
 pub fn consultations_stand()
     ensures consult_sends { ConsultSends }
     ensures consult_identified { ConsultIdentified }
+    ensures identified_elsewhere { IdentifiedElsewhere }
     ensures consult_fails { ConsultFails }
     ensures consult_done { ConsultDone }
     ensures consult_unanswered { ConsultUnanswered }
@@ -27,6 +28,7 @@ pub fn placed_calls_stand()
     ensures asked_on_3 { AskedOn3 }
     ensures asked_twice { AskedTwice }
     ensures asked_declined { AskedDeclined }
+    ensures asked_and_lost { AskedAndLost }
     ensures placed_on_4 { PlacedOn4 }
     ensures asked_while_placing { AskedWhilePlacing }
     ensures placed_done { PlacedDone }
@@ -43,6 +45,7 @@ pub fn setups_stand()
     ensures setup_needs_two { SetupNeedsTwo }
     ensures setup_lapses { SetupLapses }
     ensures setup_rings { SetupRings }
+    ensures setup_numbered { SetupNumbered }
 {}
 
 // Hold, at both ends.
@@ -54,6 +57,12 @@ pub fn holds_stand()
     ensures hold_glare { HoldGlare }
     ensures held_here { HeldHere }
     ensures hold_near { HoldNear }
+    ensures both_cleared { BothCleared }
+    ensures done_while_holding { DoneWhileHolding }
+    ensures retrieve_fails_transferring { RetrieveFailsTransferring }
+    ensures holding_primary_lost { HoldingPrimaryLost }
+    ensures holding_primary_done { HoldingPrimaryDone }
+    ensures setup_met_holding { SetupMetHolding }
 {}
 
 // Time, legs and the queue.
