@@ -145,6 +145,14 @@ ConsultDone =
     × (leg_after consult_done 3 ≡ free_leg)
     × (leg_after consult_done 4 ≡ idle 400)
 
+-- the consulted station clears the secondary first, and then the transfer is done
+abbrev pub ConsultDoneAlone : Type 0
+ConsultDoneAlone =
+    (Answers (consult_identified ++ heard (release 4) ∷ heard (with Facility Result CallTransferInitiate 3 2 0 0) ∷ []) (identified_sent ++ done ∷ sends_ends (release 3) 2 cause.Result ∷ []))
+    × (leg_after (consult_identified ++ heard (release 4) ∷ heard (with Facility Result CallTransferInitiate 3 2 0 0) ∷ []) 3 ≡ free_leg)
+    × (leg_after (consult_identified ++ heard (release 4) ∷ heard (with Facility Result CallTransferInitiate 3 2 0 0) ∷ []) 4 ≡ free_leg)
+    × (timer_after (consult_identified ++ heard (release 4) ∷ heard (with Facility Result CallTransferInitiate 3 2 0 0) ∷ []) 6 ≡ None)
+
 -- no identity: by an error nothing is sent, by CT-T1 the far end is told not to wait
 abbrev pub ConsultUnanswered : Type 0
 ConsultUnanswered =
@@ -258,6 +266,14 @@ PlacedDone =
     × (leg_after placed_done 4 ≡ with_phase (idle 400) phase.Alerting)
     × (timer_after placed_done 8 ≡ None)
     × (leg_after (placed_done ++ heard (with Connect Result CallTransferSetup 4 1 0 0) ∷ []) 4 ≡ idle 400)
+
+-- it is answered at once, by CONNECT with the result
+abbrev pub PlacedConnects : Type 0
+PlacedConnects =
+    (Answers (placed_on4 ++ heard (with Connect Result CallTransferSetup 4 1 0 0) ∷ []) (placed_sent ++ sends_ends initiate_done 1 cause.Result ∷ []))
+    × (leg_after (placed_on4 ++ heard (with Connect Result CallTransferSetup 4 1 0 0) ∷ []) 3 ≡ free_leg)
+    × (leg_after (placed_on4 ++ heard (with Connect Result CallTransferSetup 4 1 0 0) ∷ []) 4 ≡ idle 400)
+    × (timer_after (placed_on4 ++ heard (with Connect Result CallTransferSetup 4 1 0 0) ∷ []) 8 ≡ None)
 
 -- CT-T4 runs out: the call is given up, and its primary gets the error
 abbrev pub placed_lapses : List Call
@@ -405,23 +421,43 @@ HoldLapses =
     × (leg_after (held_later ++ call.Tick 7 ∷ []) 3 ≡ idle 300)
     × (timer_after (held_later ++ call.Tick 7 ∷ []) 7 ≡ None)
 
+-- the far end asks for a hold of its own
+abbrev remote_hold_heard : Call
+remote_hold_heard = heard (with Facility Invoke RemoteHold 3 8 0 0)
+
+abbrev glare : Message
+glare = with_error Facility RemoteHold 3 8 error.SupplementaryServiceInteractionNotAllowed
+
 -- both ends ask at once: this end, which asked, answers with error 5; and once it is held itself, with error 4
 abbrev pub HoldGlare : Type 0
 HoldGlare =
-    (Answers (call.Open 3 300 ∷ call.Hold 3 hold.Remote ∷ heard (with Facility Invoke RemoteHold 3 8 0 0) ∷ [])
-    (done ∷ sends (with Facility Invoke RemoteHold 3 1 0 0) ∷ sends (with_error Facility RemoteHold 3 8 error.SupplementaryServiceInteractionNotAllowed) ∷ []))
-    × (Answers (call.Open 3 300 ∷ heard (with Facility Invoke RemoteHold 3 8 0 0) ∷ heard (with Facility Invoke RemoteHold 3 9 0 0) ∷ [])
+    (Answers (call.Open 3 300 ∷ call.Hold 3 hold.Remote ∷ remote_hold_heard ∷ [])
+    (done ∷ sends (with Facility Invoke RemoteHold 3 1 0 0) ∷ sends glare ∷ []))
+    × (leg_after (call.Open 3 300 ∷ call.Hold 3 hold.Remote ∷ remote_hold_heard ∷ []) 3 ≡ with_holder (idle 300) (holder.RemoteRequested 1))
+    × (timer_after (call.Open 3 300 ∷ call.Hold 3 hold.Remote ∷ remote_hold_heard ∷ []) 7 ≡ Some 5)
+    × (Answers (call.Open 3 300 ∷ remote_hold_heard ∷ heard (with Facility Invoke RemoteHold 3 9 0 0) ∷ [])
     (done ∷ did note.Held (few.One (with Facility Result RemoteHold 3 8 0 0)) few.Zero ∷ sends (with_error Facility RemoteHold 3 9 error.InvalidCallState) ∷ []))
+
+-- the far end asks for a hold while this end holds, or fetches back: that gets error 5, and changes nothing
+abbrev pub HoldGlareHolding : Type 0
+HoldGlareHolding =
+    (Answers (call.Open 3 300 ∷ call.Hold 3 hold.Near ∷ remote_hold_heard ∷ []) (done ∷ sends (with Facility Invoke HoldNotific 3 0 0 0) ∷ sends glare ∷ []))
+    × (leg_after (call.Open 3 300 ∷ call.Hold 3 hold.Near ∷ remote_hold_heard ∷ []) 3 ≡ with_holder (idle 300) holder.NearHolding)
+    × (Answers (held_at_far_end ++ remote_hold_heard ∷ []) (hold_sent ++ sends glare ∷ []))
+    × (leg_after (held_at_far_end ++ remote_hold_heard ∷ []) 3 ≡ with_holder (idle 300) holder.RemoteHolding)
+    × (Answers (held_at_far_end ++ call.Retrieve 3 ∷ remote_hold_heard ∷ []) (hold_sent ++ retrieve_sent ∷ sends glare ∷ []))
+    × (leg_after (held_at_far_end ++ call.Retrieve 3 ∷ remote_hold_heard ∷ []) 3 ≡ with_holder (idle 300) (holder.RetrieveRequested 2))
+    × (timer_after (held_at_far_end ++ call.Retrieve 3 ∷ remote_hold_heard ∷ []) 7 ≡ Some 5)
 
 -- this end is held and fetched back by the far end
 abbrev pub held_here : List Call
-held_here = call.Open 3 300 ∷ heard (with Facility Invoke RemoteHold 3 8 0 0) ∷ heard (with Facility Invoke RemoteRetrieve 3 9 0 0) ∷ []
+held_here = call.Open 3 300 ∷ remote_hold_heard ∷ heard (with Facility Invoke RemoteRetrieve 3 9 0 0) ∷ []
 
 abbrev pub HeldHere : Type 0
 HeldHere =
     (Answers held_here
     (done ∷ did note.Held (few.One (with Facility Result RemoteHold 3 8 0 0)) few.Zero ∷ did note.Retrieved (few.One (with Facility Result RemoteRetrieve 3 9 0 0)) few.Zero ∷ []))
-    × (leg_after (call.Open 3 300 ∷ heard (with Facility Invoke RemoteHold 3 8 0 0) ∷ []) 3 ≡ with_held (idle 300) (Some hold.Remote))
+    × (leg_after (call.Open 3 300 ∷ remote_hold_heard ∷ []) 3 ≡ with_held (idle 300) (Some hold.Remote))
     × (leg_after held_here 3 ≡ idle 300)
 
 -- hold at this end only tells the far end, and so does what the far end does at its own
@@ -473,6 +509,13 @@ RetrieveFailsTransferring =
     (retrieve_and_transfer_sent ++ did note.Done (few.One (release 3)) (few.Two (end 2 cause.Fault) (end 3 cause.Cleared)) ∷ []))
     × (leg_after (retrieve_and_transfer ++ call.Tick 5 ∷ []) 3 ≡ free_leg)
     × (timer_after (retrieve_and_transfer ++ call.Tick 5 ∷ []) 6 ≡ None)
+
+-- the same while the leg is primary of a consultation: its end goes before that of the identify on the secondary
+abbrev pub RetrieveFailsConsulting : Type 0
+RetrieveFailsConsulting =
+    (Answers (held_at_far_end ++ call.Retrieve 3 ∷ call.Open 4 400 ∷ call.Consult 3 4 ∷ call.Tick 5 ∷ [])
+    (hold_sent ++ retrieve_sent ∷ done ∷ sends (with Facility Invoke CallTransferIdentify 4 3 0 0)
+    ∷ did note.Done (few.Two (release 3) (abandon 4)) (few.Two (end 2 cause.Timeout) (end 3 cause.Cleared)) ∷ []))
 
 -- primary and secondary of a consultation both ask for a hold, and the primary is lost: its hold's end goes before that of the identify on the secondary, whose own hold goes on
 abbrev consult_and_hold : List Call

@@ -1,5 +1,5 @@
 // Worked cases, each the contract of a function that does nothing.
-ghost use Rattle.rules.specs.Worked.{TransferSends, TransferLapses, TransferDone, ReleaseMatches, ReleaseOther, ConsultSends, ConsultIdentified, IdentifiedElsewhere, ConsultFails, ConsultDone, ConsultUnanswered, PrimaryLostConsulting, PrimaryLostInitiating, SecondaryLost, AskedOn3, AskedTwice, AskedDeclined, AskedAndLost, PlacedOn4, AskedWhilePlacing, PlacedDone, PlacedLapses, PlacedFails, PrimaryLostPlacing, IdentityGiven, SetupMet, SetupFails, SetupNeedsTwo, SetupLapses, SetupRings, SetupNumbered, HoldAndRetrieve, RetrieveLapses, HoldTimers, HoldLapses, HoldGlare, HeldHere, HoldNear, BothCleared, DoneWhileHolding, RetrieveFailsTransferring, HoldingPrimaryLost, HoldingPrimaryDone, SetupMetHolding, TimeAndLegs, TakesInOrder, OneTimerAtACall, EqualDeadlines, EqualDeadlinesOfALeg};
+ghost use Rattle.rules.specs.Worked.{TransferSends, TransferLapses, TransferDone, ReleaseMatches, ReleaseOther, ConsultSends, ConsultIdentified, IdentifiedElsewhere, ConsultFails, ConsultDone, ConsultDoneAlone, ConsultUnanswered, PrimaryLostConsulting, PrimaryLostInitiating, SecondaryLost, AskedOn3, AskedTwice, AskedDeclined, AskedAndLost, PlacedOn4, AskedWhilePlacing, PlacedDone, PlacedConnects, PlacedLapses, PlacedFails, PrimaryLostPlacing, IdentityGiven, SetupMet, SetupFails, SetupNeedsTwo, SetupLapses, SetupRings, SetupNumbered, HoldAndRetrieve, RetrieveLapses, HoldTimers, HoldLapses, HoldGlare, HoldGlareHolding, HeldHere, HoldNear, BothCleared, DoneWhileHolding, RetrieveFailsTransferring, RetrieveFailsConsulting, HoldingPrimaryLost, HoldingPrimaryDone, SetupMetHolding, TimeAndLegs, TakesInOrder, OneTimerAtACall, EqualDeadlines, EqualDeadlinesOfALeg};
 
 // Transfer without consultation, at the end that transfers.
 pub fn transfers_stand()
@@ -17,6 +17,7 @@ pub fn consultations_stand()
     ensures identified_elsewhere { IdentifiedElsewhere }
     ensures consult_fails { ConsultFails }
     ensures consult_done { ConsultDone }
+    ensures consult_done_alone { ConsultDoneAlone }
     ensures consult_unanswered { ConsultUnanswered }
     ensures primary_lost_consulting { PrimaryLostConsulting }
     ensures primary_lost_initiating { PrimaryLostInitiating }
@@ -32,6 +33,7 @@ pub fn placed_calls_stand()
     ensures placed_on_4 { PlacedOn4 }
     ensures asked_while_placing { AskedWhilePlacing }
     ensures placed_done { PlacedDone }
+    ensures placed_connects { PlacedConnects }
     ensures placed_lapses { PlacedLapses }
     ensures placed_fails { PlacedFails }
     ensures primary_lost_placing { PrimaryLostPlacing }
@@ -55,11 +57,13 @@ pub fn holds_stand()
     ensures hold_timers { HoldTimers }
     ensures hold_lapses { HoldLapses }
     ensures hold_glare { HoldGlare }
+    ensures hold_glare_holding { HoldGlareHolding }
     ensures held_here { HeldHere }
     ensures hold_near { HoldNear }
     ensures both_cleared { BothCleared }
     ensures done_while_holding { DoneWhileHolding }
     ensures retrieve_fails_transferring { RetrieveFailsTransferring }
+    ensures retrieve_fails_consulting { RetrieveFailsConsulting }
     ensures holding_primary_lost { HoldingPrimaryLost }
     ensures holding_primary_done { HoldingPrimaryDone }
     ensures setup_met_holding { SetupMetHolding }
