@@ -2,7 +2,7 @@
 use Rattle.std.specs.Prelude.{◌≡◌, ℕ, ◌+◌, ◌^◌, List, [], ◌∷◌, ◌++◌, Some, None, refl}
 use Rattle.std.proofs.Common.{ltb-true}
 use Rattle.message.specs.declared.codes.Carrier.TheVariants.{Setup, Alerting, Connect, Facility, ReleaseComplete}
-use Rattle.message.specs.declared.codes.Kind.TheVariants.{Nothing, Invoke, Result}
+use Rattle.message.specs.declared.codes.Kind.TheVariants.{Nothing, Invoke, Result, Reject}
 use Rattle.message.specs.declared.codes.Operation.TheVariants.{CallTransferIdentify, CallTransferInitiate, CallTransferSetup, HoldNotific, RetrieveNotific, RemoteHold, RemoteRetrieve}
 use Rattle.message.specs.declared.codes.ErrorCode.TheVariants as error
 use Rattle.message.specs.declared.record.Message.{Message}
@@ -78,6 +78,24 @@ ReleaseOther =
     (Answers (transfer_of3 ++ heard (with ReleaseComplete Result CallTransferInitiate 3 2 0 0) ∷ []) (done ∷ sends transfer_invoke ∷ ends 1 cause.Cleared ∷ []))
     × (Answers (transfer_of3 ++ heard (release 3) ∷ []) (done ∷ sends transfer_invoke ∷ ends 1 cause.Cleared ∷ []))
 
+-- an error or a reject of the transfer: leg 3 is as before, and nobody is told
+abbrev pub TransferFails : Type 0
+TransferFails =
+    (Answers (transfer_of3 ++ heard (with_error Facility CallTransferInitiate 3 1 error.EstablishmentFailure) ∷ []) (done ∷ sends transfer_invoke ∷ ends 1 cause.Fault ∷ []))
+    × (Answers (transfer_of3 ++ heard (with Facility Reject CallTransferInitiate 3 1 0 0) ∷ []) (done ∷ sends transfer_invoke ∷ ends 1 cause.Fault ∷ []))
+    × (leg_after (transfer_of3 ++ heard (with Facility Reject CallTransferInitiate 3 1 0 0) ∷ []) 3 ≡ idle 300)
+    × (timer_after (transfer_of3 ++ heard (with Facility Reject CallTransferInitiate 3 1 0 0) ∷ []) 6 ≡ None)
+
+-- a result with another number, of another operation or on another leg is stray, and the transfer goes on
+abbrev pub OtherResults : Type 0
+OtherResults =
+    (Answers
+    (transfer_of3 ++ heard (with Facility Result CallTransferInitiate 3 2 0 0) ∷ heard (with Facility Result RemoteHold 3 1 0 0) ∷ call.Open 4 400
+    ∷ heard (with Facility Result CallTransferInitiate 4 1 0 0) ∷ heard (with Facility Result CallTransferInitiate 5 1 0 0) ∷ [])
+    (done ∷ sends transfer_invoke ∷ stray ∷ stray ∷ done ∷ stray ∷ stray ∷ []))
+    × (leg_after (transfer_of3 ++ heard (with Facility Result CallTransferInitiate 3 2 0 0) ∷ []) 3 ≡ with_transfer (idle 300) (transfer.AwaitInitiate 1 None))
+    × (timer_after (transfer_of3 ++ heard (with Facility Result CallTransferInitiate 3 2 0 0) ∷ []) 6 ≡ Some 30)
+
 -- ---- transfer with consultation, at the end that transfers: leg 3 is the primary, leg 4 the secondary
 
 abbrev pub consult_of3 : List Call
@@ -135,6 +153,23 @@ ConsultFails =
     × (leg_after consult_fails 4 ≡ idle 400)
     × (timer_after consult_fails 6 ≡ None)
 
+-- a reject of the identify is as an error of it, and one of the transfer as an error of that
+abbrev pub ConsultRejected : Type 0
+ConsultRejected =
+    (Answers (consult_of3 ++ heard (with Facility Reject CallTransferIdentify 4 1 0 0) ∷ []) (consult_sent ++ ends 1 cause.Fault ∷ []))
+    × (leg_after (consult_of3 ++ heard (with Facility Reject CallTransferIdentify 4 1 0 0) ∷ []) 3 ≡ idle 300)
+    × (leg_after (consult_of3 ++ heard (with Facility Reject CallTransferIdentify 4 1 0 0) ∷ []) 4 ≡ idle 400)
+    × (timer_after (consult_of3 ++ heard (with Facility Reject CallTransferIdentify 4 1 0 0) ∷ []) 8 ≡ None)
+    × (Answers (consult_identified ++ heard (with Facility Reject CallTransferInitiate 3 2 0 0) ∷ []) (identified_sent ++ sends_ends (abandon 4) 2 cause.Fault ∷ []))
+
+-- CT-T3 runs out: the consulted station is told not to wait, and both legs are as before
+abbrev pub ConsultLapses : Type 0
+ConsultLapses =
+    (Answers (consult_identified ++ call.Tick 29 ∷ call.Tick 30 ∷ []) (identified_sent ++ noted note.NoneDue ∷ sends_ends (abandon 4) 2 cause.Timeout ∷ []))
+    × (leg_after (consult_identified ++ call.Tick 30 ∷ []) 3 ≡ idle 300)
+    × (leg_after (consult_identified ++ call.Tick 30 ∷ []) 4 ≡ idle 400)
+    × (timer_after (consult_identified ++ call.Tick 30 ∷ []) 6 ≡ None)
+
 -- the transfer is done, which RELEASE COMPLETE says: the primary is free, the secondary is left to its far end
 abbrev pub consult_done : List Call
 consult_done = consult_identified ++ heard (with ReleaseComplete Result CallTransferInitiate 3 2 0 0) ∷ []
@@ -171,6 +206,14 @@ abbrev pub PrimaryLostInitiating : Type 0
 PrimaryLostInitiating =
     (Answers (consult_identified ++ call.Clear 3 ∷ []) (identified_sent ++ did note.Done (few.Two (release 3) (abandon 4)) (few.One (end 2 cause.Cleared)) ∷ []))
     × (leg_after (consult_identified ++ call.Clear 3 ∷ []) 4 ≡ idle 400)
+
+-- the secondary is lost while its identity is awaited: the primary is as before
+abbrev pub SecondaryLostConsulting : Type 0
+SecondaryLostConsulting =
+    (Answers (consult_of3 ++ heard (release 4) ∷ []) (consult_sent ++ ends 1 cause.Cleared ∷ []))
+    × (leg_after (consult_of3 ++ heard (release 4) ∷ []) 3 ≡ idle 300)
+    × (leg_after (consult_of3 ++ heard (release 4) ∷ []) 4 ≡ free_leg)
+    × (timer_after (consult_of3 ++ heard (release 4) ∷ []) 8 ≡ None)
 
 -- the secondary is lost while the transfer is awaited, which goes on alone
 abbrev pub SecondaryLost : Type 0
@@ -239,6 +282,10 @@ calling = record { phase = phase.Calling; peer = 400; transfer = transfer.AwaitS
 abbrev initiate_done : Message
 initiate_done = with ReleaseComplete Result CallTransferInitiate 3 9 0 0
 
+-- or has not
+abbrev initiate_failed : Message
+initiate_failed = with_error Facility CallTransferInitiate 3 9 error.EstablishmentFailure
+
 abbrev pub PlacedOn4 : Type 0
 PlacedOn4 =
     (Answers placed_on4 placed_sent)
@@ -281,16 +328,26 @@ placed_lapses = placed_on4 ++ call.Tick 25 ∷ []
 
 abbrev pub PlacedLapses : Type 0
 PlacedLapses =
-    (Answers placed_lapses (placed_sent ++ did note.Done (few.Two (release 4) (with_error Facility CallTransferInitiate 3 9 error.EstablishmentFailure)) (few.One (end 1 cause.Timeout)) ∷ []))
+    (Answers placed_lapses (placed_sent ++ did note.Done (few.Two (release 4) initiate_failed) (few.One (end 1 cause.Timeout)) ∷ []))
     × (leg_after placed_lapses 3 ≡ idle 300)
     × (leg_after placed_lapses 4 ≡ free_leg)
     × (timer_after placed_lapses 8 ≡ None)
 
--- the set-up fails: RELEASE COMPLETE with its error is a fault, with nothing it is the loss of the leg
+abbrev setup_error : Call
+setup_error = heard (with_error ReleaseComplete CallTransferSetup 4 1 error.UnrecognizedCallIdentity)
+
+-- the set-up fails: RELEASE COMPLETE with its error or reject is a fault, with nothing it is the loss of the leg
 abbrev pub PlacedFails : Type 0
 PlacedFails =
-    (Answers (placed_on4 ++ heard (with_error ReleaseComplete CallTransferSetup 4 1 error.UnrecognizedCallIdentity) ∷ []) (placed_sent ++ sends_ends (with_error Facility CallTransferInitiate 3 9 error.EstablishmentFailure) 1 cause.Fault ∷ []))
-    × (Answers (placed_on4 ++ heard (release 4) ∷ []) (placed_sent ++ sends_ends (with_error Facility CallTransferInitiate 3 9 error.EstablishmentFailure) 1 cause.Cleared ∷ []))
+    (Answers (placed_on4 ++ setup_error ∷ []) (placed_sent ++ sends_ends initiate_failed 1 cause.Fault ∷ []))
+    × (leg_after (placed_on4 ++ setup_error ∷ []) 3 ≡ idle 300)
+    × (leg_after (placed_on4 ++ setup_error ∷ []) 4 ≡ free_leg)
+    × (timer_after (placed_on4 ++ setup_error ∷ []) 8 ≡ None)
+    × (Answers (placed_on4 ++ heard (with ReleaseComplete Reject CallTransferSetup 4 1 0 0) ∷ []) (placed_sent ++ sends_ends initiate_failed 1 cause.Fault ∷ []))
+    × (Answers (placed_on4 ++ heard (release 4) ∷ []) (placed_sent ++ sends_ends initiate_failed 1 cause.Cleared ∷ []))
+    × (leg_after (placed_on4 ++ heard (release 4) ∷ []) 3 ≡ idle 300)
+    × (leg_after (placed_on4 ++ heard (release 4) ∷ []) 4 ≡ free_leg)
+    × (timer_after (placed_on4 ++ heard (release 4) ∷ []) 8 ≡ None)
 
 -- the primary is lost: the call on its behalf is given up
 abbrev pub PrimaryLostPlacing : Type 0
@@ -343,6 +400,27 @@ SetupLapses =
     × (Answers (identified_on5 ++ heard (abandon 5) ∷ []) (done ∷ sends identify_result ∷ done ∷ []))
     × (leg_after (identified_on5 ++ heard (abandon 5) ∷ []) 5 ≡ idle 500)
     × (timer_after (identified_on5 ++ heard (abandon 5) ∷ []) 10 ≡ None)
+
+-- an identify or an initiate is answered by an error where a transfer goes on, and so is a second identify; nothing changes
+abbrev pub InvokesFail : Type 0
+InvokesFail =
+    (Answers (transfer_of3 ++ heard (with Facility Invoke CallTransferIdentify 3 9 0 0) ∷ heard (initiate_heard 9) ∷ [])
+    (done ∷ sends transfer_invoke ∷ sends (with_error Facility CallTransferIdentify 3 9 error.Unspecified) ∷ sends (with_error Facility CallTransferInitiate 3 9 error.Unspecified) ∷ []))
+    × (leg_after (transfer_of3 ++ heard (with Facility Invoke CallTransferIdentify 3 9 0 0) ∷ heard (initiate_heard 9) ∷ []) 3 ≡ with_transfer (idle 300) (transfer.AwaitInitiate 1 None))
+    × (Answers (identified_on5 ++ heard (with Facility Invoke CallTransferIdentify 5 10 0 0) ∷ []) (done ∷ sends identify_result ∷ sends (with_error Facility CallTransferIdentify 5 10 error.Unspecified) ∷ []))
+    × (leg_after (identified_on5 ++ heard (with Facility Invoke CallTransferIdentify 5 10 0 0) ∷ []) 5 ≡ with_transfer (idle 500) transfer.AwaitSetup)
+    × (timer_after (identified_on5 ++ heard (with Facility Invoke CallTransferIdentify 5 10 0 0) ∷ []) 10 ≡ Some 20)
+
+-- an invoke on a free leg is stray, and so is an abandon where no set-up is awaited
+abbrev pub InvokesStray : Type 0
+InvokesStray =
+    Answers (heard (with Facility Invoke CallTransferIdentify 5 9 0 0) ∷ heard (initiate_heard 9) ∷ heard (with Facility Invoke RemoteHold 5 9 0 0) ∷ call.Open 5 500 ∷ heard (abandon 5) ∷ [])
+    (stray ∷ stray ∷ stray ∷ done ∷ stray ∷ [])
+
+-- a SETUP on a leg in use is refused, also one without identity
+abbrev pub SetupInUse : Type 0
+SetupInUse =
+    Answers (identified_on5 ++ call.Open 7 700 ∷ setup_on7 6 ∷ setup_on7 0 ∷ []) (done ∷ sends identify_result ∷ done ∷ refused refusal.LegInUse ∷ refused refusal.LegInUse ∷ [])
 
 -- SETUP without identity rings, and the host accepts or declines
 abbrev pub SetupRings : Type 0
@@ -413,6 +491,23 @@ HoldTimers =
     × ((runs slow_board (retrieved_later ++ call.Tick 16 ∷ call.Tick 17 ∷ [])).0 ≡
     (done ∷ noted note.NoneDue ∷ sends (with Facility Invoke RemoteHold 3 1 0 0) ∷ noted note.NoneDue ∷ ends 1 cause.Result ∷ noted note.NoneDue ∷ retrieve_sent ∷ noted note.NoneDue ∷ sends_ends (release 3) 2 cause.Timeout ∷ []))
 
+-- the hold is refused by an error or a reject: there is no hold
+abbrev pub HoldFails : Type 0
+HoldFails =
+    (Answers (call.Open 3 300 ∷ call.Hold 3 hold.Remote ∷ heard (with_error Facility RemoteHold 3 1 error.InvalidCallState) ∷ [])
+    (done ∷ sends (with Facility Invoke RemoteHold 3 1 0 0) ∷ ends 1 cause.Fault ∷ []))
+    × (Answers (call.Open 3 300 ∷ call.Hold 3 hold.Remote ∷ heard (with Facility Reject RemoteHold 3 1 0 0) ∷ []) (done ∷ sends (with Facility Invoke RemoteHold 3 1 0 0) ∷ ends 1 cause.Fault ∷ []))
+    × (leg_after (call.Open 3 300 ∷ call.Hold 3 hold.Remote ∷ heard (with_error Facility RemoteHold 3 1 error.InvalidCallState) ∷ []) 3 ≡ idle 300)
+    × (timer_after (call.Open 3 300 ∷ call.Hold 3 hold.Remote ∷ heard (with_error Facility RemoteHold 3 1 error.InvalidCallState) ∷ []) 7 ≡ None)
+
+-- the retrieve is refused by an error or a reject: the call is released
+abbrev pub RetrieveFails : Type 0
+RetrieveFails =
+    (Answers (held_at_far_end ++ call.Retrieve 3 ∷ heard (with_error Facility RemoteRetrieve 3 2 error.InvalidCallState) ∷ []) (hold_sent ++ retrieve_sent ∷ sends_ends (release 3) 2 cause.Fault ∷ []))
+    × (Answers (held_at_far_end ++ call.Retrieve 3 ∷ heard (with Facility Reject RemoteRetrieve 3 2 0 0) ∷ []) (hold_sent ++ retrieve_sent ∷ sends_ends (release 3) 2 cause.Fault ∷ []))
+    × (leg_after (held_at_far_end ++ call.Retrieve 3 ∷ heard (with Facility Reject RemoteRetrieve 3 2 0 0) ∷ []) 3 ≡ free_leg)
+    × (timer_after (held_at_far_end ++ call.Retrieve 3 ∷ heard (with Facility Reject RemoteRetrieve 3 2 0 0) ∷ []) 7 ≡ None)
+
 -- the hold gets no answer: there is no hold
 abbrev pub HoldLapses : Type 0
 HoldLapses =
@@ -437,6 +532,7 @@ HoldGlare =
     × (timer_after (call.Open 3 300 ∷ call.Hold 3 hold.Remote ∷ remote_hold_heard ∷ []) 7 ≡ Some 5)
     × (Answers (call.Open 3 300 ∷ remote_hold_heard ∷ heard (with Facility Invoke RemoteHold 3 9 0 0) ∷ [])
     (done ∷ did note.Held (few.One (with Facility Result RemoteHold 3 8 0 0)) few.Zero ∷ sends (with_error Facility RemoteHold 3 9 error.InvalidCallState) ∷ []))
+    × (leg_after (call.Open 3 300 ∷ remote_hold_heard ∷ heard (with Facility Invoke RemoteHold 3 9 0 0) ∷ []) 3 ≡ with_held (idle 300) (Some hold.Remote))
 
 -- the far end asks for a hold while this end holds, or fetches back: that gets error 5, and changes nothing
 abbrev pub HoldGlareHolding : Type 0
@@ -459,6 +555,21 @@ HeldHere =
     (done ∷ did note.Held (few.One (with Facility Result RemoteHold 3 8 0 0)) few.Zero ∷ did note.Retrieved (few.One (with Facility Result RemoteRetrieve 3 9 0 0)) few.Zero ∷ []))
     × (leg_after (call.Open 3 300 ∷ remote_hold_heard ∷ []) 3 ≡ with_held (idle 300) (Some hold.Remote))
     × (leg_after held_here 3 ≡ idle 300)
+
+-- the far end fetches back what it does not hold at this end: that gets error 4, and changes nothing
+abbrev pub RetrieveUnheld : Type 0
+RetrieveUnheld =
+    (Answers (call.Open 3 300 ∷ heard (with Facility Invoke RemoteRetrieve 3 9 0 0) ∷ heard (with Facility Invoke HoldNotific 3 0 0 0) ∷ heard (with Facility Invoke RemoteRetrieve 3 10 0 0) ∷ [])
+    (done ∷ sends (with_error Facility RemoteRetrieve 3 9 error.InvalidCallState) ∷ noted note.Held ∷ sends (with_error Facility RemoteRetrieve 3 10 error.InvalidCallState) ∷ []))
+    × (leg_after (call.Open 3 300 ∷ heard (with Facility Invoke RemoteRetrieve 3 9 0 0) ∷ []) 3 ≡ idle 300)
+    × (leg_after (call.Open 3 300 ∷ heard (with Facility Invoke HoldNotific 3 0 0 0) ∷ heard (with Facility Invoke RemoteRetrieve 3 10 0 0) ∷ []) 3 ≡ with_held (idle 300) (Some hold.Near))
+
+-- a notification that fits no hold is stray: of a hold where there is one, of a retrieve where the far end holds another way or not at all
+abbrev pub HoldStrays : Type 0
+HoldStrays =
+    (Answers (call.Open 3 300 ∷ heard (with Facility Invoke RetrieveNotific 3 0 0 0) ∷ remote_hold_heard ∷ heard (with Facility Invoke RetrieveNotific 3 0 0 0) ∷ heard (with Facility Invoke HoldNotific 3 0 0 0) ∷ [])
+    (done ∷ stray ∷ did note.Held (few.One (with Facility Result RemoteHold 3 8 0 0)) few.Zero ∷ stray ∷ stray ∷ []))
+    × (leg_after (call.Open 3 300 ∷ remote_hold_heard ∷ heard (with Facility Invoke RetrieveNotific 3 0 0 0) ∷ []) 3 ≡ with_held (idle 300) (Some hold.Remote))
 
 -- hold at this end only tells the far end, and so does what the far end does at its own
 abbrev pub HoldNear : Type 0

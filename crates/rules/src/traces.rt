@@ -1,5 +1,5 @@
 // Worked cases, each the contract of a function that does nothing.
-ghost use Rattle.rules.specs.Worked.{TransferSends, TransferLapses, TransferDone, ReleaseMatches, ReleaseOther, ConsultSends, ConsultIdentified, IdentifiedElsewhere, ConsultFails, ConsultDone, ConsultDoneAlone, ConsultUnanswered, PrimaryLostConsulting, PrimaryLostInitiating, SecondaryLost, AskedOn3, AskedTwice, AskedDeclined, AskedAndLost, PlacedOn4, AskedWhilePlacing, PlacedDone, PlacedConnects, PlacedLapses, PlacedFails, PrimaryLostPlacing, IdentityGiven, SetupMet, SetupFails, SetupNeedsTwo, SetupLapses, SetupRings, SetupNumbered, HoldAndRetrieve, RetrieveLapses, HoldTimers, HoldLapses, HoldGlare, HoldGlareHolding, HeldHere, HoldNear, BothCleared, DoneWhileHolding, RetrieveFailsTransferring, RetrieveFailsConsulting, HoldingPrimaryLost, HoldingPrimaryDone, SetupMetHolding, TimeAndLegs, TakesInOrder, OneTimerAtACall, EqualDeadlines, EqualDeadlinesOfALeg};
+ghost use Rattle.rules.specs.Worked.{TransferSends, TransferLapses, TransferDone, ReleaseMatches, ReleaseOther, TransferFails, OtherResults, ConsultSends, ConsultIdentified, IdentifiedElsewhere, ConsultFails, ConsultRejected, ConsultLapses, ConsultDone, ConsultDoneAlone, ConsultUnanswered, PrimaryLostConsulting, PrimaryLostInitiating, SecondaryLostConsulting, SecondaryLost, AskedOn3, AskedTwice, AskedDeclined, AskedAndLost, PlacedOn4, AskedWhilePlacing, PlacedDone, PlacedConnects, PlacedLapses, PlacedFails, PrimaryLostPlacing, IdentityGiven, SetupMet, SetupFails, SetupNeedsTwo, SetupLapses, InvokesFail, InvokesStray, SetupInUse, SetupRings, SetupNumbered, HoldAndRetrieve, RetrieveLapses, HoldTimers, HoldFails, RetrieveFails, HoldLapses, HoldGlare, HoldGlareHolding, HeldHere, RetrieveUnheld, HoldStrays, HoldNear, BothCleared, DoneWhileHolding, RetrieveFailsTransferring, RetrieveFailsConsulting, HoldingPrimaryLost, HoldingPrimaryDone, SetupMetHolding, TimeAndLegs, TakesInOrder, OneTimerAtACall, EqualDeadlines, EqualDeadlinesOfALeg};
 
 // Transfer without consultation, at the end that transfers.
 pub fn transfers_stand()
@@ -8,6 +8,8 @@ pub fn transfers_stand()
     ensures transfer_done { TransferDone }
     ensures release_matches { ReleaseMatches }
     ensures release_other { ReleaseOther }
+    ensures transfer_fails { TransferFails }
+    ensures other_results { OtherResults }
 {}
 
 // Transfer with consultation, at the end that transfers.
@@ -16,11 +18,14 @@ pub fn consultations_stand()
     ensures consult_identified { ConsultIdentified }
     ensures identified_elsewhere { IdentifiedElsewhere }
     ensures consult_fails { ConsultFails }
+    ensures consult_rejected { ConsultRejected }
+    ensures consult_lapses { ConsultLapses }
     ensures consult_done { ConsultDone }
     ensures consult_done_alone { ConsultDoneAlone }
     ensures consult_unanswered { ConsultUnanswered }
     ensures primary_lost_consulting { PrimaryLostConsulting }
     ensures primary_lost_initiating { PrimaryLostInitiating }
+    ensures secondary_lost_consulting { SecondaryLostConsulting }
     ensures secondary_lost { SecondaryLost }
 {}
 
@@ -46,6 +51,9 @@ pub fn setups_stand()
     ensures setup_fails { SetupFails }
     ensures setup_needs_two { SetupNeedsTwo }
     ensures setup_lapses { SetupLapses }
+    ensures invokes_fail { InvokesFail }
+    ensures invokes_stray { InvokesStray }
+    ensures setup_in_use { SetupInUse }
     ensures setup_rings { SetupRings }
     ensures setup_numbered { SetupNumbered }
 {}
@@ -55,10 +63,14 @@ pub fn holds_stand()
     ensures hold_and_retrieve { HoldAndRetrieve }
     ensures retrieve_lapses { RetrieveLapses }
     ensures hold_timers { HoldTimers }
+    ensures hold_fails { HoldFails }
+    ensures retrieve_fails { RetrieveFails }
     ensures hold_lapses { HoldLapses }
     ensures hold_glare { HoldGlare }
     ensures hold_glare_holding { HoldGlareHolding }
     ensures held_here { HeldHere }
+    ensures retrieve_unheld { RetrieveUnheld }
+    ensures hold_strays { HoldStrays }
     ensures hold_near { HoldNear }
     ensures both_cleared { BothCleared }
     ensures done_while_holding { DoneWhileHolding }
