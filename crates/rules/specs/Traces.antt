@@ -1,5 +1,5 @@
 -- The station of the worked cases, and how a case is said.
-use Rattle.std.specs.Prelude.{◌≡◌, ℕ, List, Some, None, Option, slice_index_or, Err}
+use Rattle.std.specs.Prelude.{◌≡◌, ℕ, List, [], Some, None, Option, slice_index_or, Err}
 use Rattle.std.proofs.Common.{lit≤}
 use Rattle.message.specs.declared.codes.Carrier.{Carrier}
 use Rattle.message.specs.declared.codes.Carrier.TheVariants.{Facility, ReleaseComplete}
@@ -59,6 +59,19 @@ slow_board =
       most = lit≤ tt;
     })
     64
+
+-- a board with all legs free that has one request number left
+abbrev pub late_board : State
+late_board =
+    record {
+      settings = station;
+      time = 0;
+      next = Some 65535;
+      legs = (fresh station 64).legs;
+      deadlines = (fresh station 64).deadlines;
+      waiting = [];
+      capacity = 64;
+    }
 
 -- the answers to these calls on a fresh board with this capacity
 abbrev pub answers_with : ℕ → List Call → List Answer

@@ -21,11 +21,12 @@ use Rattle.leg.specs.declared.record.HoldKind.TheVariants as hold
 use Rattle.leg.specs.declared.record.Leg.{Leg}
 use Rattle.leg.specs.declared.reaction.UpToTwo.TheVariants as few
 use Rattle.leg.specs.Views.{free_leg, with_phase, with_transfer, with_holder, with_held, active_leg}
-use Rattle.rules.specs.Answers.{Answer, did, taken}
+use Rattle.rules.specs.Answers.{Answer, did, taken, shown}
+use Rattle.rules.specs.Reports.{report_of}
 use Rattle.rules.specs.declared.call.Call.{Call}
 use Rattle.rules.specs.declared.call.Call.TheVariants as call
 use Rattle.rules.specs.Runs.{runs}
-use Rattle.rules.specs.Traces.{slow_board, answers_with, Answers, leg_after, timer_after, heard, with, with_error, release, abandon, noted, done, stray, sends, sends_two, end, ends, sends_ends, refused}
+use Rattle.rules.specs.Traces.{slow_board, late_board, answers_with, Answers, leg_after, timer_after, heard_bytes, heard, with, with_error, release, abandon, noted, done, stray, sends, sends_two, end, ends, sends_ends, refused}
 
 abbrev place3 : Place
 place3 = record { index = 3; below = ltb-true 3 32 refl }
@@ -672,6 +673,75 @@ abbrev pub TimeAndLegs : Type 0
 TimeAndLegs =
     Answers (call.Tick 30 ∷ call.Tick 29 ∷ call.Open 31 1 ∷ call.Open 32 1 ∷ call.Open 31 1 ∷ call.Tick (2 ^ 40) ∷ call.Tick (2 ^ 40 + 1) ∷ [])
     (noted note.NoneDue ∷ refused refusal.BadTime ∷ done ∷ refused refusal.NoSuchLeg ∷ refused refusal.LegInUse ∷ noted note.NoneDue ∷ refused refusal.BadTime ∷ [])
+
+-- a leg or an address out of range is refused before the leg's record counts, and the leg before the address
+abbrev pub BadArguments : Type 0
+BadArguments =
+    Answers
+    (call.Open 3 0 ∷ call.Open 3 65536 ∷ call.Open 32 0 ∷ call.Open 3 65535 ∷ call.Transfer 3 0 ∷ call.Transfer 4 65536 ∷ call.Consult 3 32 ∷ call.Place 32 4
+    ∷ call.Clear 32 ∷ call.Accept 32 ∷ call.Decline 32 ∷ call.Hold 32 hold.Near ∷ call.Retrieve 32 ∷ [])
+    (refused refusal.BadAddress ∷ refused refusal.BadAddress ∷ refused refusal.NoSuchLeg ∷ done ∷ refused refusal.BadAddress ∷ refused refusal.BadAddress ∷ refused refusal.NoSuchLeg ∷ refused refusal.NoSuchLeg
+    ∷ refused refusal.NoSuchLeg ∷ refused refusal.NoSuchLeg ∷ refused refusal.NoSuchLeg ∷ refused refusal.NoSuchLeg ∷ refused refusal.NoSuchLeg ∷ [])
+
+-- bytes that are no message are refused with the first wrong byte: no bytes at all, a result of a set-up by FACILITY, a leg 32, a SETUP from address 0
+abbrev pub BadMessages : Type 0
+BadMessages =
+    Answers
+    (heard_bytes [] ∷ heard (with Facility Result CallTransferSetup 3 1 0 0) ∷ heard (with Facility Result CallTransferInitiate 32 1 0 0) ∷ heard (with Setup Invoke CallTransferSetup 7 1 0 0) ∷ [])
+    (refused (refusal.BadMessage (record { byte = 16 })) ∷ refused (refusal.BadMessage (record { byte = 2 })) ∷ refused (refusal.BadMessage (record { byte = 3 }))
+    ∷ refused (refusal.BadMessage (record { byte = 8 })) ∷ [])
+
+-- on a free leg there is nothing to clear, to transfer, to consult with, to place for, to accept, to decline, to hold or to retrieve
+abbrev pub FreeLegs : Type 0
+FreeLegs =
+    Answers
+    (call.Clear 3 ∷ call.Transfer 3 400 ∷ call.Consult 3 3 ∷ call.Place 3 4 ∷ call.Accept 3 ∷ call.Decline 3 ∷ call.Hold 3 hold.Near ∷ call.Retrieve 3 ∷ call.Open 4 400
+    ∷ call.Consult 3 4 ∷ call.Consult 4 3 ∷ call.Place 3 4 ∷ [])
+    (refused refusal.LegFree ∷ refused refusal.LegFree ∷ refused refusal.LegFree ∷ refused refusal.LegFree ∷ refused refusal.LegFree ∷ refused refusal.LegFree ∷ refused refusal.LegFree ∷ refused refusal.LegFree ∷ done
+    ∷ refused refusal.LegFree ∷ refused refusal.LegFree ∷ refused refusal.LegInUse ∷ [])
+
+-- a leg that is still called cannot be transferred, consulted, consulted about or held, and there is nothing to retrieve
+abbrev pub NotActiveLegs : Type 0
+NotActiveLegs =
+    Answers (placed_on4 ++ call.Transfer 4 500 ∷ call.Open 5 500 ∷ call.Consult 4 5 ∷ call.Consult 5 4 ∷ call.Consult 4 4 ∷ call.Hold 4 hold.Near ∷ call.Retrieve 4 ∷ [])
+    (placed_sent ++ refused refusal.NotActive ∷ done ∷ refused refusal.NotActive ∷ refused refusal.NotActive ∷ refused refusal.NotActive ∷ refused refusal.NotActive ∷ refused refusal.WrongState ∷ [])
+
+-- a leg with a transfer under way cannot be transferred or consulted, nor can a leg be consulted with itself
+abbrev pub NotIdleLegs : Type 0
+NotIdleLegs =
+    Answers (transfer_of3 ++ call.Transfer 3 500 ∷ call.Open 4 400 ∷ call.Consult 3 4 ∷ call.Consult 4 3 ∷ call.Consult 4 4 ∷ call.Consult 3 3 ∷ [])
+    (done ∷ sends transfer_invoke ∷ refused refusal.NotIdle ∷ done ∷ refused refusal.NotIdle ∷ refused refusal.NotIdle ∷ refused refusal.SameLeg ∷ refused refusal.SameLeg ∷ [])
+
+-- an active leg of which nothing is asked has nothing to accept, to decline, to place for or to retrieve; and what is placed already can be neither declined nor placed again
+abbrev pub WrongStates : Type 0
+WrongStates =
+    (Answers (call.Open 3 300 ∷ call.Accept 3 ∷ call.Decline 3 ∷ call.Place 3 4 ∷ call.Retrieve 3 ∷ [])
+    (done ∷ refused refusal.WrongState ∷ refused refusal.WrongState ∷ refused refusal.WrongState ∷ refused refusal.WrongState ∷ []))
+    × (Answers (placed_on4 ++ call.Decline 3 ∷ call.Place 3 5 ∷ []) (placed_sent ++ refused refusal.WrongState ∷ refused refusal.WrongState ∷ []))
+
+abbrev identity_late : Call
+identity_late = heard (with Facility Result CallTransferIdentify 4 65535 77 400)
+
+-- after request 65,535 there is no number for a request, and what sends none goes on; the identity that comes then is refused, and is still awaited
+abbrev pub NumbersRunOut : Type 0
+NumbersRunOut =
+    ((runs late_board (call.Open 3 300 ∷ call.Open 4 400 ∷ call.Consult 3 4 ∷ identity_late ∷ call.Hold 3 hold.Remote ∷ call.Transfer 3 500 ∷ call.Hold 3 hold.Near ∷ [])).0 ≡
+    (done ∷ done ∷ sends (with Facility Invoke CallTransferIdentify 4 65535 0 0) ∷ refused refusal.NoNumberLeft ∷ refused refusal.NoNumberLeft ∷ refused refusal.NotIdle
+    ∷ sends (with Facility Invoke HoldNotific 3 0 0 0) ∷ []))
+    × ((runs late_board (call.Open 3 300 ∷ call.Open 4 400 ∷ call.Consult 3 4 ∷ identity_late ∷ call.Look 4 ∷ [])).0 ≡
+    (done ∷ done ∷ sends (with Facility Invoke CallTransferIdentify 4 65535 0 0) ∷ refused refusal.NoNumberLeft ∷ shown (with_transfer (idle 400) (transfer.AwaitIdentify 65535 place3)) ∷ []))
+
+-- a look shows a record, also that of a free leg
+abbrev pub Looks : Type 0
+Looks = Answers (call.Open 3 300 ∷ call.Look 3 ∷ call.Look 4 ∷ call.Look 32 ∷ []) (done ∷ shown (idle 300) ∷ shown free_leg ∷ refused refusal.NoSuchLeg ∷ [])
+
+-- answers by their numbers: asked to call 400; a timeout with an abandon; a wrong byte 8; a full queue
+abbrev pub InNumbers : Type 0
+InNumbers =
+    (report_of (noted (note.Asked 400)) ≡ record { refusal = 0; note = 4; value = 400; sent = few.Zero; ends = few.Zero })
+    × (report_of (sends_ends (abandon 4) 1 cause.Timeout) ≡ record { refusal = 0; note = 0; value = 0; sent = few.One (abandon 4); ends = few.One (end 1 cause.Timeout) })
+    × (report_of (refused (refusal.BadMessage (record { byte = 8 }))) ≡ record { refusal = 6; note = 0; value = 8; sent = few.Zero; ends = few.Zero })
+    × (report_of (refused refusal.QueueFull) ≡ record { refusal = 15; note = 0; value = 0; sent = few.Zero; ends = few.Zero })
 
 -- what was sent is taken in its order
 abbrev pub TakesInOrder : Type 0

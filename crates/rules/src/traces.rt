@@ -1,5 +1,5 @@
 // Worked cases, each the contract of a function that does nothing.
-ghost use Rattle.rules.specs.Worked.{TransferSends, TransferLapses, TransferDone, ReleaseMatches, ReleaseOther, TransferFails, OtherResults, ConsultSends, ConsultIdentified, IdentifiedElsewhere, ConsultFails, ConsultRejected, ConsultLapses, ConsultDone, ConsultDoneAlone, ConsultUnanswered, PrimaryLostConsulting, PrimaryLostInitiating, SecondaryLostConsulting, SecondaryLost, AskedOn3, AskedTwice, AskedDeclined, AskedAndLost, PlacedOn4, AskedWhilePlacing, PlacedDone, PlacedConnects, PlacedLapses, PlacedFails, PrimaryLostPlacing, IdentityGiven, SetupMet, SetupFails, SetupNeedsTwo, SetupLapses, InvokesFail, InvokesStray, SetupInUse, SetupRings, SetupNumbered, HoldAndRetrieve, RetrieveLapses, HoldTimers, HoldFails, RetrieveFails, HoldLapses, HoldGlare, HoldGlareHolding, HeldHere, RetrieveUnheld, HoldStrays, HoldNear, BothCleared, DoneWhileHolding, RetrieveFailsTransferring, RetrieveFailsConsulting, HoldingPrimaryLost, HoldingPrimaryDone, SetupMetHolding, TimeAndLegs, TakesInOrder, OneTimerAtACall, EqualDeadlines, EqualDeadlinesOfALeg};
+ghost use Rattle.rules.specs.Worked.{TransferSends, TransferLapses, TransferDone, ReleaseMatches, ReleaseOther, TransferFails, OtherResults, ConsultSends, ConsultIdentified, IdentifiedElsewhere, ConsultFails, ConsultRejected, ConsultLapses, ConsultDone, ConsultDoneAlone, ConsultUnanswered, PrimaryLostConsulting, PrimaryLostInitiating, SecondaryLostConsulting, SecondaryLost, AskedOn3, AskedTwice, AskedDeclined, AskedAndLost, PlacedOn4, AskedWhilePlacing, PlacedDone, PlacedConnects, PlacedLapses, PlacedFails, PrimaryLostPlacing, IdentityGiven, SetupMet, SetupFails, SetupNeedsTwo, SetupLapses, InvokesFail, InvokesStray, SetupInUse, SetupRings, SetupNumbered, HoldAndRetrieve, RetrieveLapses, HoldTimers, HoldFails, RetrieveFails, HoldLapses, HoldGlare, HoldGlareHolding, HeldHere, RetrieveUnheld, HoldStrays, HoldNear, BothCleared, DoneWhileHolding, RetrieveFailsTransferring, RetrieveFailsConsulting, HoldingPrimaryLost, HoldingPrimaryDone, SetupMetHolding, TimeAndLegs, BadArguments, BadMessages, FreeLegs, NotActiveLegs, NotIdleLegs, WrongStates, NumbersRunOut, Looks, InNumbers, TakesInOrder, OneTimerAtACall, EqualDeadlines, EqualDeadlinesOfALeg};
 
 // Transfer without consultation, at the end that transfers.
 pub fn transfers_stand()
@@ -84,6 +84,15 @@ pub fn holds_stand()
 // Time, legs and the queue.
 pub fn bounds_stand()
     ensures time_and_legs { TimeAndLegs }
+    ensures bad_arguments { BadArguments }
+    ensures bad_messages { BadMessages }
+    ensures free_legs { FreeLegs }
+    ensures not_active_legs { NotActiveLegs }
+    ensures not_idle_legs { NotIdleLegs }
+    ensures wrong_states { WrongStates }
+    ensures numbers_run_out { NumbersRunOut }
+    ensures looks { Looks }
+    ensures in_numbers { InNumbers }
     ensures takes_in_order { TakesInOrder }
     ensures one_timer_at_a_call { OneTimerAtACall }
     ensures equal_deadlines { EqualDeadlines }
