@@ -26,7 +26,7 @@ use Rattle.rules.specs.Reports.{report_of}
 use Rattle.rules.specs.declared.call.Call.{Call}
 use Rattle.rules.specs.declared.call.Call.TheVariants as call
 use Rattle.rules.specs.Runs.{runs}
-use Rattle.rules.specs.Traces.{slow_board, late_board, answers_with, Answers, leg_after, timer_after, heard_bytes, heard, with, with_error, release, abandon, noted, done, stray, sends, sends_two, end, ends, sends_ends, refused}
+use Rattle.rules.specs.Traces.{slow_board, late_board, answers_with, Answers, state_after, leg_after, timer_after, heard_bytes, heard, with, with_error, release, abandon, noted, done, stray, sends, sends_two, end, ends, sends_ends, refused}
 
 abbrev place3 : Place
 place3 = record { index = 3; below = ltb-true 3 32 refl }
@@ -70,14 +70,22 @@ TransferDone =
     × (leg_after transfer_done 3 ≡ free_leg)
     × (timer_after transfer_done 6 ≡ None)
 
--- RELEASE COMPLETE with the result of this request ends it by result; with the result of another, or with nothing, by clearing
+-- RELEASE COMPLETE with the result of this request ends it by result, and the leg with it
 abbrev pub ReleaseMatches : Type 0
-ReleaseMatches = Answers (transfer_of3 ++ heard (with ReleaseComplete Result CallTransferInitiate 3 1 0 0) ∷ []) (done ∷ sends transfer_invoke ∷ ends 1 cause.Result ∷ [])
+ReleaseMatches =
+    (Answers (transfer_of3 ++ heard (with ReleaseComplete Result CallTransferInitiate 3 1 0 0) ∷ []) (done ∷ sends transfer_invoke ∷ ends 1 cause.Result ∷ []))
+    × (leg_after (transfer_of3 ++ heard (with ReleaseComplete Result CallTransferInitiate 3 1 0 0) ∷ []) 3 ≡ free_leg)
+    × (timer_after (transfer_of3 ++ heard (with ReleaseComplete Result CallTransferInitiate 3 1 0 0) ∷ []) 6 ≡ None)
 
+-- with the result of another, or with nothing, it ends the request by clearing, and the leg with it
 abbrev pub ReleaseOther : Type 0
 ReleaseOther =
     (Answers (transfer_of3 ++ heard (with ReleaseComplete Result CallTransferInitiate 3 2 0 0) ∷ []) (done ∷ sends transfer_invoke ∷ ends 1 cause.Cleared ∷ []))
+    × (leg_after (transfer_of3 ++ heard (with ReleaseComplete Result CallTransferInitiate 3 2 0 0) ∷ []) 3 ≡ free_leg)
+    × (timer_after (transfer_of3 ++ heard (with ReleaseComplete Result CallTransferInitiate 3 2 0 0) ∷ []) 6 ≡ None)
     × (Answers (transfer_of3 ++ heard (release 3) ∷ []) (done ∷ sends transfer_invoke ∷ ends 1 cause.Cleared ∷ []))
+    × (leg_after (transfer_of3 ++ heard (release 3) ∷ []) 3 ≡ free_leg)
+    × (timer_after (transfer_of3 ++ heard (release 3) ∷ []) 6 ≡ None)
 
 -- an error or a reject of the transfer: leg 3 is as before, and nobody is told
 abbrev pub TransferFails : Type 0
@@ -189,24 +197,35 @@ ConsultDoneAlone =
     × (leg_after (consult_identified ++ heard (release 4) ∷ heard (with Facility Result CallTransferInitiate 3 2 0 0) ∷ []) 4 ≡ free_leg)
     × (timer_after (consult_identified ++ heard (release 4) ∷ heard (with Facility Result CallTransferInitiate 3 2 0 0) ∷ []) 6 ≡ None)
 
+abbrev identify_error : Call
+identify_error = heard (with_error Facility CallTransferIdentify 4 1 error.Unspecified)
+
 -- no identity: by an error nothing is sent, by CT-T1 the far end is told not to wait
 abbrev pub ConsultUnanswered : Type 0
 ConsultUnanswered =
-    (Answers (consult_of3 ++ heard (with_error Facility CallTransferIdentify 4 1 error.Unspecified) ∷ []) (consult_sent ++ ends 1 cause.Fault ∷ []))
+    (Answers (consult_of3 ++ identify_error ∷ []) (consult_sent ++ ends 1 cause.Fault ∷ []))
+    × (leg_after (consult_of3 ++ identify_error ∷ []) 3 ≡ idle 300)
+    × (leg_after (consult_of3 ++ identify_error ∷ []) 4 ≡ idle 400)
+    × (timer_after (consult_of3 ++ identify_error ∷ []) 8 ≡ None)
     × (Answers (consult_of3 ++ call.Tick 10 ∷ []) (consult_sent ++ sends_ends (abandon 4) 1 cause.Timeout ∷ []))
     × (leg_after (consult_of3 ++ call.Tick 10 ∷ []) 3 ≡ idle 300)
+    × (leg_after (consult_of3 ++ call.Tick 10 ∷ []) 4 ≡ idle 400)
+    × (timer_after (consult_of3 ++ call.Tick 10 ∷ []) 8 ≡ None)
 
 -- the primary is lost while the identity is awaited, and while the transfer is
 abbrev pub PrimaryLostConsulting : Type 0
 PrimaryLostConsulting =
     (Answers (consult_of3 ++ heard (release 3) ∷ []) (consult_sent ++ sends_ends (abandon 4) 1 cause.Cleared ∷ []))
+    × (leg_after (consult_of3 ++ heard (release 3) ∷ []) 3 ≡ free_leg)
     × (leg_after (consult_of3 ++ heard (release 3) ∷ []) 4 ≡ idle 400)
     × (timer_after (consult_of3 ++ heard (release 3) ∷ []) 8 ≡ None)
 
 abbrev pub PrimaryLostInitiating : Type 0
 PrimaryLostInitiating =
     (Answers (consult_identified ++ call.Clear 3 ∷ []) (identified_sent ++ did note.Done (few.Two (release 3) (abandon 4)) (few.One (end 2 cause.Cleared)) ∷ []))
+    × (leg_after (consult_identified ++ call.Clear 3 ∷ []) 3 ≡ free_leg)
     × (leg_after (consult_identified ++ call.Clear 3 ∷ []) 4 ≡ idle 400)
+    × (timer_after (consult_identified ++ call.Clear 3 ∷ []) 6 ≡ None)
 
 -- the secondary is lost while its identity is awaited: the primary is as before
 abbrev pub SecondaryLostConsulting : Type 0
@@ -221,6 +240,7 @@ abbrev pub SecondaryLost : Type 0
 SecondaryLost =
     (Answers (consult_identified ++ heard (release 4) ∷ []) (identified_sent ++ done ∷ []))
     × (leg_after (consult_identified ++ heard (release 4) ∷ []) 3 ≡ with_transfer (idle 300) (transfer.AwaitInitiate 2 None))
+    × (leg_after (consult_identified ++ heard (release 4) ∷ []) 4 ≡ free_leg)
     × (timer_after (consult_identified ++ heard (release 4) ∷ []) 6 ≡ Some 30)
 
 -- ---- at the end that is transferred: leg 3 is asked to call 400, where identity 77 is known; leg 4 calls
@@ -354,7 +374,9 @@ PlacedFails =
 abbrev pub PrimaryLostPlacing : Type 0
 PrimaryLostPlacing =
     (Answers (placed_on4 ++ heard (release 3) ∷ []) (placed_sent ++ sends_ends (release 4) 1 cause.Cleared ∷ []))
+    × (leg_after (placed_on4 ++ heard (release 3) ∷ []) 3 ≡ free_leg)
     × (leg_after (placed_on4 ++ heard (release 3) ∷ []) 4 ≡ free_leg)
+    × (timer_after (placed_on4 ++ heard (release 3) ∷ []) 8 ≡ None)
 
 -- ---- at the end that is transferred to
 
@@ -387,6 +409,7 @@ SetupFails =
     (Answers (identified_on5 ++ setup_on7 8 ∷ []) (done ∷ sends identify_result ∷ sends (with_error ReleaseComplete CallTransferSetup 7 1 error.UnrecognizedCallIdentity) ∷ []))
     × (leg_after (identified_on5 ++ setup_on7 8 ∷ []) 7 ≡ free_leg)
     × (leg_after (identified_on5 ++ setup_on7 8 ∷ []) 5 ≡ with_transfer (idle 500) transfer.AwaitSetup)
+    × (timer_after (identified_on5 ++ setup_on7 8 ∷ []) 10 ≡ Some 20)
 
 -- the queue has one free place of two: the matched SETUP, which sends two, is refused; the one that fails sends one
 abbrev pub SetupNeedsTwo : Type 0
@@ -398,6 +421,8 @@ SetupNeedsTwo =
 abbrev pub SetupLapses : Type 0
 SetupLapses =
     (Answers (identified_on5 ++ call.Tick 20 ∷ []) (done ∷ sends identify_result ∷ noted note.SetupLapsed ∷ []))
+    × (leg_after (identified_on5 ++ call.Tick 20 ∷ []) 5 ≡ idle 500)
+    × (timer_after (identified_on5 ++ call.Tick 20 ∷ []) 10 ≡ None)
     × (Answers (identified_on5 ++ heard (abandon 5) ∷ []) (done ∷ sends identify_result ∷ done ∷ []))
     × (leg_after (identified_on5 ++ heard (abandon 5) ∷ []) 5 ≡ idle 500)
     × (timer_after (identified_on5 ++ heard (abandon 5) ∷ []) 10 ≡ None)
@@ -667,12 +692,18 @@ SetupMetHolding =
     ∷ did note.Done (few.Two (with Connect Result CallTransferSetup 7 1 0 0) (release 5)) (few.One (end 1 cause.Cleared)) ∷ []))
     × (timer_after (identified_on5 ++ call.Hold 5 hold.Remote ∷ setup_on7 6 ∷ []) 11 ≡ None)
 
--- ---- time, legs and the queue
+-- ---- time, legs and the queue, and what is refused
+
+-- time does not go back, nor beyond 2^40; the last leg is 31, and is opened once
+abbrev pub time_and_legs : List Call
+time_and_legs = call.Tick 30 ∷ call.Tick 29 ∷ call.Open 31 1 ∷ call.Open 32 1 ∷ call.Open 31 1 ∷ []
 
 abbrev pub TimeAndLegs : Type 0
 TimeAndLegs =
-    Answers (call.Tick 30 ∷ call.Tick 29 ∷ call.Open 31 1 ∷ call.Open 32 1 ∷ call.Open 31 1 ∷ call.Tick (2 ^ 40) ∷ call.Tick (2 ^ 40 + 1) ∷ [])
-    (noted note.NoneDue ∷ refused refusal.BadTime ∷ done ∷ refused refusal.NoSuchLeg ∷ refused refusal.LegInUse ∷ noted note.NoneDue ∷ refused refusal.BadTime ∷ [])
+    (Answers (time_and_legs ++ call.Tick (2 ^ 40) ∷ call.Tick (2 ^ 40 + 1) ∷ [])
+    (noted note.NoneDue ∷ refused refusal.BadTime ∷ done ∷ refused refusal.NoSuchLeg ∷ refused refusal.LegInUse ∷ noted note.NoneDue ∷ refused refusal.BadTime ∷ []))
+    × (leg_after time_and_legs 31 ≡ idle 1)
+    × ((state_after time_and_legs).time ≡ 30)
 
 -- a leg or an address out of range is refused before the leg's record counts, and the leg before the address
 abbrev pub BadArguments : Type 0

@@ -81,7 +81,7 @@ pub fn holds_stand()
     ensures setup_met_holding { SetupMetHolding }
 {}
 
-// Time, legs and the queue.
+// Time, legs and the queue, and what is refused.
 pub fn bounds_stand()
     ensures time_and_legs { TimeAndLegs }
     ensures bad_arguments { BadArguments }
