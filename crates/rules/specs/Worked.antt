@@ -2,7 +2,7 @@
 use Rattle.std.specs.Prelude.{◌≡◌, ℕ, ◌+◌, ◌^◌, List, [], ◌∷◌, ◌++◌, Some, None, refl}
 use Rattle.std.proofs.Common.{ltb-true}
 use Rattle.message.specs.declared.codes.Carrier.TheVariants.{Setup, Alerting, Connect, Facility, ReleaseComplete}
-use Rattle.message.specs.declared.codes.Kind.TheVariants.{Nothing, Invoke, Result, Reject}
+use Rattle.message.specs.declared.codes.Kind.TheVariants.{Invoke, Result, Reject}
 use Rattle.message.specs.declared.codes.Operation.TheVariants.{CallTransferIdentify, CallTransferInitiate, CallTransferSetup, HoldNotific, RetrieveNotific, RemoteHold, RemoteRetrieve}
 use Rattle.message.specs.declared.codes.ErrorCode.TheVariants as error
 use Rattle.message.specs.declared.record.Message.{Message}
@@ -26,7 +26,7 @@ use Rattle.rules.specs.Reports.{report_of}
 use Rattle.rules.specs.declared.call.Call.{Call}
 use Rattle.rules.specs.declared.call.Call.TheVariants as call
 use Rattle.rules.specs.Runs.{runs}
-use Rattle.rules.specs.Traces.{slow_board, late_board, answers_with, Answers, state_after, leg_after, timer_after, heard_bytes, heard, with, with_error, release, abandon, noted, done, stray, sends, sends_two, end, ends, sends_ends, refused}
+use Rattle.rules.specs.Traces.{slow_board, late_board, answers_with, Answers, state_after, leg_after, timer_after, heard_bytes, heard, bare, with, with_error, release, abandon, noted, done, stray, sends, sends_two, end, ends, sends_ends, refused}
 
 abbrev place3 : Place
 place3 = record { index = 3; below = ltb-true 3 32 refl }
@@ -269,10 +269,12 @@ second_heard = heard (with Facility Invoke CallTransferInitiate 3 10 78 401)
 abbrev second_fails : Answer
 second_fails = sends (with_error Facility CallTransferInitiate 3 10 error.Unspecified)
 
--- a second invoke while one is owed gets an error, and the first stays owed
+-- a second invoke while one is owed gets an error, also one with the number of the first, and the first stays owed
 abbrev pub AskedTwice : Type 0
 AskedTwice =
-    (Answers (asked_on3 ++ second_heard ∷ []) (asked_sent ++ second_fails ∷ []))
+    (Answers (asked_on3 ++ heard (initiate_heard 9) ∷ []) (asked_sent ++ sends (with_error Facility CallTransferInitiate 3 9 error.Unspecified) ∷ []))
+    × (leg_after (asked_on3 ++ heard (initiate_heard 9) ∷ []) 3 ≡ with_transfer (idle 300) (transfer.Asked asked))
+    × (Answers (asked_on3 ++ second_heard ∷ []) (asked_sent ++ second_fails ∷ []))
     × (leg_after (asked_on3 ++ second_heard ∷ []) 3 ≡ with_transfer (idle 300) (transfer.Asked asked))
 
 -- the host declines
@@ -303,7 +305,7 @@ calling = record { phase = phase.Calling; peer = 400; transfer = transfer.AwaitS
 abbrev initiate_done : Message
 initiate_done = with ReleaseComplete Result CallTransferInitiate 3 9 0 0
 
--- or has not
+-- and what, if it has not
 abbrev initiate_failed : Message
 initiate_failed = with_error Facility CallTransferInitiate 3 9 error.EstablishmentFailure
 
@@ -328,7 +330,7 @@ placed_done = placed_on4 ++ heard (with Alerting Result CallTransferSetup 4 1 0 
 
 abbrev pub PlacedDone : Type 0
 PlacedDone =
-    (Answers (placed_done ++ heard (record { carrier = Connect; kind = Nothing; operation = None; leg = 4; number = 0; identity = 0; address = 0; error = None }) ∷ [])
+    (Answers (placed_done ++ heard (bare Connect 4) ∷ [])
     (placed_sent ++ sends_ends initiate_done 1 cause.Result ∷ done ∷ []))
     × (leg_after placed_done 3 ≡ free_leg)
     × (leg_after placed_done 4 ≡ with_phase (idle 400) phase.Alerting)
@@ -342,6 +344,23 @@ PlacedConnects =
     × (leg_after (placed_on4 ++ heard (with Connect Result CallTransferSetup 4 1 0 0) ∷ []) 3 ≡ free_leg)
     × (leg_after (placed_on4 ++ heard (with Connect Result CallTransferSetup 4 1 0 0) ∷ []) 4 ≡ idle 400)
     × (timer_after (placed_on4 ++ heard (with Connect Result CallTransferSetup 4 1 0 0) ∷ []) 8 ≡ None)
+
+-- ALERTING or CONNECT with nothing, or with the result of another, is stray on a leg that calls; on one that alerts any CONNECT is the answer
+abbrev pub ConnectsStray : Type 0
+ConnectsStray =
+    (Answers
+    (placed_on4 ++ heard (bare Alerting 4) ∷ heard (bare Connect 4) ∷ heard (with Alerting Result CallTransferSetup 4 2 0 0) ∷ heard (with Connect Result CallTransferSetup 4 2 0 0) ∷ [])
+    (placed_sent ++ stray ∷ stray ∷ stray ∷ stray ∷ []))
+    × (leg_after (placed_on4 ++ heard (bare Connect 4) ∷ heard (with Connect Result CallTransferSetup 4 2 0 0) ∷ []) 4 ≡ calling)
+    × (timer_after (placed_on4 ++ heard (bare Connect 4) ∷ heard (with Connect Result CallTransferSetup 4 2 0 0) ∷ []) 8 ≡ Some 25)
+    × (Answers (placed_done ++ heard (with Connect Result CallTransferSetup 4 2 0 0) ∷ heard (bare Connect 4) ∷ []) (placed_sent ++ sends_ends initiate_done 1 cause.Result ∷ done ∷ stray ∷ []))
+
+-- asked for without identity, the call is set up without one
+abbrev pub PlacedPlain : Type 0
+PlacedPlain =
+    (Answers (call.Open 3 300 ∷ heard (with Facility Invoke CallTransferInitiate 3 9 0 400) ∷ call.Place 3 4 ∷ [])
+    (done ∷ noted (note.Asked 400) ∷ sends (with Setup Invoke CallTransferSetup 4 1 0 200) ∷ []))
+    × (leg_after (call.Open 3 300 ∷ heard (with Facility Invoke CallTransferInitiate 3 9 0 400) ∷ call.Place 3 4 ∷ []) 4 ≡ calling)
 
 -- CT-T4 runs out: the call is given up, and its primary gets the error
 abbrev pub placed_lapses : List Call
@@ -369,6 +388,11 @@ PlacedFails =
     × (leg_after (placed_on4 ++ heard (release 4) ∷ []) 3 ≡ idle 300)
     × (leg_after (placed_on4 ++ heard (release 4) ∷ []) 4 ≡ free_leg)
     × (timer_after (placed_on4 ++ heard (release 4) ∷ []) 8 ≡ None)
+
+-- RELEASE COMPLETE with the error of another is the loss of the leg too
+abbrev pub PlacedReleased : Type 0
+PlacedReleased =
+    Answers (placed_on4 ++ heard (with_error ReleaseComplete CallTransferSetup 4 2 error.UnrecognizedCallIdentity) ∷ []) (placed_sent ++ sends_ends initiate_failed 1 cause.Cleared ∷ [])
 
 -- the primary is lost: the call on its behalf is given up
 abbrev pub PrimaryLostPlacing : Type 0
@@ -403,10 +427,13 @@ SetupMet =
     × (leg_after (identified_on5 ++ setup_on7 6 ∷ []) 5 ≡ free_leg)
     × (timer_after (identified_on5 ++ setup_on7 6 ∷ []) 10 ≡ None)
 
+abbrev setup_fails : Answer
+setup_fails = sends (with_error ReleaseComplete CallTransferSetup 7 1 error.UnrecognizedCallIdentity)
+
 -- with identity 8, that of leg 7 itself, it fails, and leg 7 stays free
 abbrev pub SetupFails : Type 0
 SetupFails =
-    (Answers (identified_on5 ++ setup_on7 8 ∷ []) (done ∷ sends identify_result ∷ sends (with_error ReleaseComplete CallTransferSetup 7 1 error.UnrecognizedCallIdentity) ∷ []))
+    (Answers (identified_on5 ++ setup_on7 8 ∷ []) (done ∷ sends identify_result ∷ setup_fails ∷ []))
     × (leg_after (identified_on5 ++ setup_on7 8 ∷ []) 7 ≡ free_leg)
     × (leg_after (identified_on5 ++ setup_on7 8 ∷ []) 5 ≡ with_transfer (idle 500) transfer.AwaitSetup)
     × (timer_after (identified_on5 ++ setup_on7 8 ∷ []) 10 ≡ Some 20)
@@ -415,7 +442,7 @@ SetupFails =
 abbrev pub SetupNeedsTwo : Type 0
 SetupNeedsTwo =
     (answers_with 2 (identified_on5 ++ setup_on7 6 ∷ []) ≡ done ∷ sends identify_result ∷ refused refusal.QueueFull ∷ [])
-    × (answers_with 2 (identified_on5 ++ setup_on7 8 ∷ []) ≡ done ∷ sends identify_result ∷ sends (with_error ReleaseComplete CallTransferSetup 7 1 error.UnrecognizedCallIdentity) ∷ [])
+    × (answers_with 2 (identified_on5 ++ setup_on7 8 ∷ []) ≡ done ∷ sends identify_result ∷ setup_fails ∷ [])
 
 -- the set-up does not come, or is called off
 abbrev pub SetupLapses : Type 0
@@ -426,6 +453,26 @@ SetupLapses =
     × (Answers (identified_on5 ++ heard (abandon 5) ∷ []) (done ∷ sends identify_result ∷ done ∷ []))
     × (leg_after (identified_on5 ++ heard (abandon 5) ∷ []) 5 ≡ idle 500)
     × (timer_after (identified_on5 ++ heard (abandon 5) ∷ []) 10 ≡ None)
+
+-- a SETUP fails with an identity above those of the legs, with that of a leg that is free, and with that of a leg that awaits none; the last leg's is 32
+abbrev pub SetupsUnknown : Type 0
+SetupsUnknown =
+    (Answers (identified_on5 ++ setup_on7 33 ∷ setup_on7 9999 ∷ setup_on7 4 ∷ call.Open 3 300 ∷ setup_on7 4 ∷ []) (done ∷ sends identify_result ∷ setup_fails ∷ setup_fails ∷ setup_fails ∷ done ∷ setup_fails ∷ []))
+    × (Answers (call.Open 31 310 ∷ heard (with Facility Invoke CallTransferIdentify 31 9 0 0) ∷ setup_on7 32 ∷ [])
+    (done ∷ sends (with Facility Result CallTransferIdentify 31 9 32 200) ∷ sends_two (with Connect Result CallTransferSetup 7 1 0 0) (release 31) ∷ []))
+
+-- the leg that awaits its set-up is lost: its timer stops, and the SETUP that comes then fails
+abbrev pub SetupLost : Type 0
+SetupLost =
+    (Answers (identified_on5 ++ heard (release 5) ∷ setup_on7 6 ∷ []) (done ∷ sends identify_result ∷ done ∷ setup_fails ∷ []))
+    × (leg_after (identified_on5 ++ heard (release 5) ∷ []) 5 ≡ free_leg)
+    × (timer_after (identified_on5 ++ heard (release 5) ∷ []) 10 ≡ None)
+
+-- a leg that rings is lost: there is nothing to accept
+abbrev pub RingingLost : Type 0
+RingingLost =
+    (Answers (setup_on7 0 ∷ heard (release 7) ∷ call.Accept 7 ∷ []) (noted note.Ringing ∷ done ∷ refused refusal.LegFree ∷ []))
+    × (leg_after (setup_on7 0 ∷ heard (release 7) ∷ []) 7 ≡ free_leg)
 
 -- an identify or an initiate is answered by an error where a transfer goes on, and so is a second identify; nothing changes
 abbrev pub InvokesFail : Type 0
@@ -604,6 +651,10 @@ HoldNear =
     (done ∷ sends (with Facility Invoke HoldNotific 3 0 0 0) ∷ refused refusal.HoldNotIdle ∷ sends (with Facility Invoke RetrieveNotific 3 0 0 0) ∷ []))
     × (Answers (call.Open 3 300 ∷ heard (with Facility Invoke HoldNotific 3 0 0 0) ∷ heard (with Facility Invoke RetrieveNotific 3 0 0 0) ∷ [])
     (done ∷ noted note.Held ∷ noted note.Retrieved ∷ []))
+    × (leg_after (call.Open 3 300 ∷ call.Hold 3 hold.Near ∷ []) 3 ≡ with_holder (idle 300) holder.NearHolding)
+    × (leg_after (call.Open 3 300 ∷ call.Hold 3 hold.Near ∷ call.Retrieve 3 ∷ []) 3 ≡ idle 300)
+    × (leg_after (call.Open 3 300 ∷ heard (with Facility Invoke HoldNotific 3 0 0 0) ∷ []) 3 ≡ with_held (idle 300) (Some hold.Near))
+    × (leg_after (call.Open 3 300 ∷ heard (with Facility Invoke HoldNotific 3 0 0 0) ∷ heard (with Facility Invoke RetrieveNotific 3 0 0 0) ∷ []) 3 ≡ idle 300)
 
 -- ---- hold while a transfer goes on: an answer may have two ends
 
@@ -796,3 +847,24 @@ abbrev pub EqualDeadlinesOfALeg : Type 0
 EqualDeadlinesOfALeg =
     Answers (call.Open 3 300 ∷ call.Transfer 3 400 ∷ call.Tick 25 ∷ call.Hold 3 hold.Remote ∷ call.Tick 30 ∷ call.Tick 30 ∷ [])
     (done ∷ sends transfer_invoke ∷ noted note.NoneDue ∷ sends (with Facility Invoke RemoteHold 3 2 0 0) ∷ ends 1 cause.Timeout ∷ ends 2 cause.Timeout ∷ [])
+
+-- each transfer timer runs from the call or the message that sets it: CT-T1, CT-T3 at a transfer and after a consultation, CT-T2, CT-T4
+abbrev pub TimersFromNow : Type 0
+TimersFromNow =
+    (timer_after (call.Open 3 300 ∷ call.Open 4 400 ∷ call.Tick 7 ∷ call.Consult 3 4 ∷ []) 8 ≡ Some 17)
+    × (timer_after (call.Open 3 300 ∷ call.Tick 7 ∷ call.Transfer 3 400 ∷ []) 6 ≡ Some 37)
+    × (timer_after (consult_of3 ++ call.Tick 7 ∷ heard (with Facility Result CallTransferIdentify 4 1 77 400) ∷ []) 6 ≡ Some 37)
+    × (timer_after (call.Open 5 500 ∷ call.Tick 7 ∷ heard (with Facility Invoke CallTransferIdentify 5 9 0 0) ∷ []) 10 ≡ Some 27)
+    × (timer_after (asked_on3 ++ call.Tick 7 ∷ call.Place 3 4 ∷ []) 8 ≡ Some 32)
+
+-- a timer that is due has not run out before a tick says so: CT-T2 of leg 5 is due with the hold timer of leg 3, which goes first, and the SETUP is met
+abbrev pub DueNotOut : Type 0
+DueNotOut =
+    Answers (call.Open 3 300 ∷ call.Open 5 500 ∷ heard (with Facility Invoke CallTransferIdentify 5 9 0 0) ∷ call.Tick 15 ∷ call.Hold 3 hold.Remote ∷ call.Tick 20 ∷ setup_on7 6 ∷ [])
+    (done ∷ done ∷ sends identify_result ∷ noted note.NoneDue ∷ sends (with Facility Invoke RemoteHold 3 1 0 0) ∷ ends 1 cause.Timeout ∷ sends_two (with Connect Result CallTransferSetup 7 1 0 0) (release 5) ∷ [])
+
+-- the queue has two places, and both are taken: a tick that has to send is refused and moves no time, what sends nothing is not; once one is taken out, the timer runs out
+abbrev pub TickNeedsOne : Type 0
+TickNeedsOne =
+    answers_with 2 (consult_of3 ++ call.Hold 3 hold.Near ∷ call.Tick 10 ∷ call.Open 5 500 ∷ call.Tick 9 ∷ call.Take ∷ call.Tick 10 ∷ []) ≡
+    consult_sent ++ sends (with Facility Invoke HoldNotific 3 0 0 0) ∷ refused refusal.QueueFull ∷ done ∷ noted note.NoneDue ∷ taken identify_on4 ∷ sends_ends (abandon 4) 1 cause.Timeout ∷ []

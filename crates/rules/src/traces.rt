@@ -1,5 +1,5 @@
 // Worked cases, each the contract of a function that does nothing.
-ghost use Rattle.rules.specs.Worked.{TransferSends, TransferLapses, TransferDone, ReleaseMatches, ReleaseOther, TransferFails, OtherResults, ConsultSends, ConsultIdentified, IdentifiedElsewhere, ConsultFails, ConsultRejected, ConsultLapses, ConsultDone, ConsultDoneAlone, ConsultUnanswered, PrimaryLostConsulting, PrimaryLostInitiating, SecondaryLostConsulting, SecondaryLost, AskedOn3, AskedTwice, AskedDeclined, AskedAndLost, PlacedOn4, AskedWhilePlacing, PlacedDone, PlacedConnects, PlacedLapses, PlacedFails, PrimaryLostPlacing, IdentityGiven, SetupMet, SetupFails, SetupNeedsTwo, SetupLapses, InvokesFail, InvokesStray, SetupInUse, SetupRings, SetupNumbered, HoldAndRetrieve, RetrieveLapses, HoldTimers, HoldFails, RetrieveFails, HoldLapses, HoldGlare, HoldGlareHolding, HeldHere, RetrieveUnheld, HoldStrays, HoldNear, BothCleared, DoneWhileHolding, RetrieveFailsTransferring, RetrieveFailsConsulting, HoldingPrimaryLost, HoldingPrimaryDone, SetupMetHolding, TimeAndLegs, BadArguments, BadMessages, FreeLegs, NotActiveLegs, NotIdleLegs, WrongStates, NumbersRunOut, Looks, InNumbers, TakesInOrder, OneTimerAtACall, EqualDeadlines, EqualDeadlinesOfALeg};
+ghost use Rattle.rules.specs.Worked.{TransferSends, TransferLapses, TransferDone, ReleaseMatches, ReleaseOther, TransferFails, OtherResults, ConsultSends, ConsultIdentified, IdentifiedElsewhere, ConsultFails, ConsultRejected, ConsultLapses, ConsultDone, ConsultDoneAlone, ConsultUnanswered, PrimaryLostConsulting, PrimaryLostInitiating, SecondaryLostConsulting, SecondaryLost, AskedOn3, AskedTwice, AskedDeclined, AskedAndLost, PlacedOn4, AskedWhilePlacing, PlacedDone, PlacedConnects, ConnectsStray, PlacedPlain, PlacedLapses, PlacedFails, PlacedReleased, PrimaryLostPlacing, IdentityGiven, SetupMet, SetupFails, SetupNeedsTwo, SetupLapses, SetupsUnknown, SetupLost, RingingLost, InvokesFail, InvokesStray, SetupInUse, SetupRings, SetupNumbered, HoldAndRetrieve, RetrieveLapses, HoldTimers, HoldFails, RetrieveFails, HoldLapses, HoldGlare, HoldGlareHolding, HeldHere, RetrieveUnheld, HoldStrays, HoldNear, BothCleared, DoneWhileHolding, RetrieveFailsTransferring, RetrieveFailsConsulting, HoldingPrimaryLost, HoldingPrimaryDone, SetupMetHolding, TimeAndLegs, BadArguments, BadMessages, FreeLegs, NotActiveLegs, NotIdleLegs, WrongStates, NumbersRunOut, Looks, InNumbers, TakesInOrder, OneTimerAtACall, EqualDeadlines, EqualDeadlinesOfALeg, TimersFromNow, DueNotOut, TickNeedsOne};
 
 // Transfer without consultation, at the end that transfers.
 pub fn transfers_stand()
@@ -39,8 +39,11 @@ pub fn placed_calls_stand()
     ensures asked_while_placing { AskedWhilePlacing }
     ensures placed_done { PlacedDone }
     ensures placed_connects { PlacedConnects }
+    ensures connects_stray { ConnectsStray }
+    ensures placed_plain { PlacedPlain }
     ensures placed_lapses { PlacedLapses }
     ensures placed_fails { PlacedFails }
+    ensures placed_released { PlacedReleased }
     ensures primary_lost_placing { PrimaryLostPlacing }
 {}
 
@@ -51,6 +54,9 @@ pub fn setups_stand()
     ensures setup_fails { SetupFails }
     ensures setup_needs_two { SetupNeedsTwo }
     ensures setup_lapses { SetupLapses }
+    ensures setups_unknown { SetupsUnknown }
+    ensures setup_lost { SetupLost }
+    ensures ringing_lost { RingingLost }
     ensures invokes_fail { InvokesFail }
     ensures invokes_stray { InvokesStray }
     ensures setup_in_use { SetupInUse }
@@ -97,4 +103,7 @@ pub fn bounds_stand()
     ensures one_timer_at_a_call { OneTimerAtACall }
     ensures equal_deadlines { EqualDeadlines }
     ensures equal_deadlines_of_a_leg { EqualDeadlinesOfALeg }
+    ensures timers_from_now { TimersFromNow }
+    ensures due_not_out { DueNotOut }
+    ensures tick_needs_one { TickNeedsOne }
 {}
