@@ -81,6 +81,7 @@ holding_by l at k next = elim k [
   | hold.Remote ↦ numbered next (λ n. hold_requesting (with_holder l (holder.RemoteRequested n)) (request_on at carrier.Facility operation.RemoteHold n 0 0) timer.HoldT1)
 ]
 
+-- hold is for an active leg where neither end holds or asked to; a transfer under way does not matter
 abbrev pub holding : Leg → Place → HoldKind → Option ℕ → Result Reaction Refusal
 holding l at k next =
     cond (in_use l)

@@ -35,6 +35,7 @@ abbrev pub identified : Leg → Place → ℕ → ℕ → Reaction
 identified l at n own =
     reaction (with_transfer l transfer.AwaitSetup) (Some (identity_on at n own)) few.Zero (change.Set timer.CtT2) change.Kept None note.Done
 
+-- what is owed for an invoke until it is answered
 abbrev pub owed_for : Message → Owed
 owed_for m = record { number = m.number; identity = m.identity; address = m.address }
 
@@ -57,6 +58,7 @@ invoked l at own o m = elim o [
       (failed l at operation.RemoteRetrieve m.number error.InvalidCallState)
 ]
 
+-- a leg that rings, and owes the answer to this SETUP
 abbrev pub ringing_leg : Message → Leg
 ringing_leg m = record { phase = phase.Ringing (owed_for m); peer = m.address; transfer = transfer.Idle; holder = holder.Idle; held = None }
 

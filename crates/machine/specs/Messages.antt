@@ -34,6 +34,7 @@ abbrev pub identity_on : Place → ℕ → ℕ → Message
 identity_on at n own =
     record { carrier = carrier.Facility; kind = kind.Result; operation = Some operation.CallTransferIdentify; leg = at.index; number = n; identity = at.index + 1; address = own; error = None }
 
+-- an error: why an invoke is not obeyed
 abbrev pub error_on : Place → Carrier → Operation → ℕ → ErrorCode → Message
 error_on at c o n e =
     record { carrier = c; kind = kind.Error; operation = Some o; leg = at.index; number = n; identity = 0; address = 0; error = Some e }

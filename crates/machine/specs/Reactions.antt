@@ -28,6 +28,7 @@ use Rattle.leg.specs.Slots.{timer_slot}
 use Rattle.leg.specs.Tells.{tell_leg}
 use Rattle.leg.specs.Views.{free_leg, transfer_request, hold_request, partner_of, with_transfer}
 
+-- a reaction: the record that comes of it, a message, ends, transfer timer, hold timer, who is told, and the note
 abbrev pub reaction : Leg → Option Message → UpToTwo Ended → TimerChange → TimerChange → Option Tell → Note → Reaction
 reaction l m es t h w n = record { leg = l; sent = m; ends = es; transfer_timer = t; hold_timer = h; tell = w; note = n }
 
@@ -58,6 +59,7 @@ requesting l m t w = with_timer slot.Transfer (timer.Set t) (reaction l (Some m)
 abbrev pub hold_requesting : Leg → Message → Timer → Reaction
 hold_requesting l m t = with_timer slot.Hold (timer.Set t) (reaction l (Some m) few.Zero timer.Kept timer.Kept None note.Done)
 
+-- the end of a request, by its number and cause
 abbrev pub ended_by : ℕ → Cause → Ended
 ended_by n c = record { number = n; cause = c }
 
@@ -77,6 +79,7 @@ hold_settling l n c = ending l slot.Hold (ended_by n c) None None
 abbrev pub unawaited : Leg → Note → Reaction
 unawaited l n = reaction (with_transfer l transfer.Idle) None few.Zero timer.Stopped timer.Kept None n
 
+-- the end of a request, if there is one
 abbrev pub request_end : Option Request → Cause → Option Ended
 request_end o c = elim o [ None ↦ None | Some r ↦ Some (ended_by r.number c) ]
 
@@ -94,6 +97,7 @@ last_ends l k = elim k [
 abbrev pub leaving : Leg → Option Message → Option Named → Option Tell → Reaction
 leaving l m k w = reaction free_leg m (last_ends l k) timer.Stopped timer.Stopped w note.Done
 
+-- a word to this leg, if there is one
 abbrev pub tell_to : Option Place → Word → Option Tell
 tell_to o w = elim o [ None ↦ None | Some p ↦ tell_leg p w ]
 

@@ -38,10 +38,12 @@ initiate_result l at m =
     (λ n s. cond (n == m.number) (leaving l (Some (release_on at)) (Some (named.Transfer cause.Result)) (tell_to s word.Part)) (strayed l))
     (strayed l)
 
+-- the far end holds the call
 abbrev pub hold_result : Leg → Message → Reaction
 hold_result l m =
     when_hold_requested l.holder (λ n. cond (n == m.number) (hold_settling (with_holder l holder.RemoteHolding) n cause.Result) (strayed l)) (strayed l)
 
+-- the call is fetched back
 abbrev pub retrieve_result : Leg → Message → Reaction
 retrieve_result l m =
     when_retrieve_requested l.holder (λ n. cond (n == m.number) (hold_settling (with_holder l holder.Idle) n cause.Result) (strayed l)) (strayed l)
@@ -69,6 +71,7 @@ abbrev pub initiate_fault : Leg → Message → Reaction
 initiate_fault l m =
     when_await_initiate l.transfer (λ n s. cond (n == m.number) (settling (with_transfer l transfer.Idle) None n cause.Fault (tell_to s word.Abandon)) (strayed l)) (strayed l)
 
+-- the far end does not hold, and the call goes on
 abbrev pub hold_fault : Leg → Message → Reaction
 hold_fault l m =
     when_hold_requested l.holder (λ n. cond (n == m.number) (hold_settling (with_holder l holder.Idle) n cause.Fault) (strayed l)) (strayed l)
@@ -91,6 +94,7 @@ faulted l at o m = elim o [
   | operation.RemoteRetrieve ↦ retrieve_fault l at m
 ]
 
+-- a placed leg that goes on in this phase: no transfer under way, peer and hold as before
 abbrev pub connected_leg : Leg → Phase → Leg
 connected_leg l p = record { phase = p; peer = l.peer; transfer = transfer.Idle; holder = l.holder; held = l.held }
 
@@ -101,6 +105,7 @@ setup_result l m p other =
     (when_await_setup_response l.transfer (λ n q. cond (n == m.number) (settling (connected_leg l p) None n cause.Result (tell_leg q word.Complete)) other) other)
     other
 
+-- ALERTING: only a matching result of the set-up counts
 abbrev pub alerted : Leg → Message → Reaction
 alerted l m = setup_result l m phase.Alerting (strayed l)
 
@@ -117,10 +122,12 @@ abbrev pub released_by_result : Leg → Message → Reaction
 released_by_result l m =
     when_await_initiate l.transfer (λ n s. cond (n == m.number) (leaving l None (Some (named.Transfer cause.Result)) (tell_to s word.Part)) (lost l)) (lost l)
 
+-- the primary is told that the placed leg is lost, whatever the fault was
 abbrev pub released_by_fault : Leg → Message → Reaction
 released_by_fault l m =
     when_await_setup_response l.transfer (λ n p. cond (n == m.number) (leaving l None (Some (named.Transfer cause.Fault)) (tell_leg p word.Lost)) (lost l)) (lost l)
 
+-- RELEASE COMPLETE, by what it brings: one of these two replies, or anything else, and then the leg is only lost
 abbrev pub released : Leg → Message → Reaction
 released l m =
     cond (of_kind m.kind kind.Result && names m.operation operation.CallTransferInitiate) (released_by_result l m)

@@ -48,5 +48,6 @@ hold_timed_out l at = elim l.holder [
   | holder.RetrieveRequested n ↦ leaving l (Some (release_on at)) (Some (named.Hold cause.Timeout)) (tell_lost l)
 ]
 
+-- by the timer that ran out
 abbrev pub timed_out : Leg → Place → Slot → Reaction
 timed_out l at k = elim k [ slot.Transfer ↦ transfer_timed_out l at | slot.Hold ↦ hold_timed_out l at ]

@@ -20,6 +20,7 @@ use Rattle.machine.specs.Messages.{release_on, notice_on, result_on, error_on}
 use Rattle.machine.specs.Reactions.{acting, settling, leaving}
 use Rattle.machine.specs.Calls.{initiating}
 
+-- the record l, and nothing else
 abbrev pub unmoved : Leg → Reaction
 unmoved l = acting l None note.Done
 
@@ -63,6 +64,7 @@ partner_lost l at = elim l.transfer [
   | transfer.Bound b ↦ parting l (bond_sends at b)
 ]
 
+-- By word: bound, asked to initiate, parted, abandoned, done, met by its set-up, or left by its partner.
 abbrev pub told_word : Leg → Place → Word → Option ℕ → Result Reaction Refusal
 told_word l at w next = elim w [
   | word.Consult s ↦ Ok (unmoved (with_transfer l (transfer.Bound (bond.Consulting s))))

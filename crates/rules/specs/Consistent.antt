@@ -10,6 +10,7 @@ use Rattle.rules.specs.States.{State, leg_at}
 abbrev pub Mutual : (Place → Option Tie) → Type 0
 Mutual ties = (p : Place) (t : Tie) → ties p ≡ Some t → (ties (tied_to t) ≡ Some (returned t p)) × ((tied_to t).index ≢ p.index)
 
+-- What holds of the state between calls: 32 records that occur, partners that name each other, and numbers, time and queue within their bounds.
 pub record Consistent (s : State) : Type 0 where
   pub size : length s.legs ≡ 32
   -- every record is one of those that occur, and what it keeps is in range

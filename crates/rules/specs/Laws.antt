@@ -16,6 +16,7 @@ use Rattle.rules.specs.Steps.{step, plan_for}
 use Rattle.rules.specs.Runs.{runs}
 use Rattle.rules.specs.Consistent.{Consistent}
 
+-- whatever is called on a fresh board, its state is consistent
 abbrev pub AlwaysConsistent : Type 0
 AlwaysConsistent = (settings : Settings) (capacity : ℕ) (calls : List Call) → Consistent (runs (fresh settings capacity) calls).1
 
@@ -23,6 +24,7 @@ AlwaysConsistent = (settings : Settings) (capacity : ℕ) (calls : List Call) �
 abbrev pub LawfulAnswer : Answer → Type 0
 LawfulAnswer a = elim a [ Err _ ↦ Unit {0} | Ok o ↦ elim o [ outcome.Done d ↦ AllByRecursion Lawful (listed d.sent) | outcome.Taken m ↦ Lawful m | outcome.Shown _ ↦ Unit {0} ] ]
 
+-- whatever is called on a fresh board, every answer is lawful
 abbrev pub AlwaysLawful : Type 0
 AlwaysLawful = (settings : Settings) (capacity : ℕ) (calls : List Call) → AllByRecursion LawfulAnswer (runs (fresh settings capacity) calls).0
 

@@ -48,6 +48,7 @@ reacting s p d = elim d [ Err why ↦ Err why | Ok r ↦ planned s p r ]
 abbrev pub other_sent : Option Told → Option Message
 other_sent o = elim o [ None ↦ None | Some t ↦ t.reaction.sent ]
 
+-- the ends of the told leg
 abbrev pub other_ends : Option Told → UpToTwo Ended
 other_ends o = elim o [ None ↦ few.Zero | Some t ↦ t.reaction.ends ]
 
@@ -60,6 +61,7 @@ module _ {A : Type 0} where
     | few.Two a b ↦ few.Two a b
   ]
 
+  -- two or fewer as a list, in their order
   abbrev pub listed : UpToTwo A → List A
   listed x = elim x [ few.Zero ↦ [] | few.One a ↦ a ∷ [] | few.Two a b ↦ a ∷ b ∷ [] ]
 
@@ -75,6 +77,7 @@ plan_ends p = followed p.own.ends (other_ends p.other)
 abbrev pub is_request : Message → Bool
 is_request m = of_kind m.kind Invoke && has_number m.operation
 
+-- whether this message, if there is one, is a request
 abbrev pub asks : Option Message → Bool
 asks o = elim o [ None ↦ false | Some m ↦ is_request m ]
 
@@ -86,6 +89,7 @@ following next = elim next [ None ↦ None | Some n ↦ cond (nat_lt n 65535) (S
 abbrev pub next_after : Option ℕ → Plan → Option ℕ
 next_after next p = cond (asks p.own.sent || asks (other_sent p.other)) (following next) next
 
+-- the key of a leg's timer: the transfer's is even, the hold's is the next
 abbrev pub key_of : Place → Slot → ℕ
 key_of p k = elim k [ slot.Transfer ↦ 2 * p.index | slot.Hold ↦ 2 * p.index + 1 ]
 
@@ -97,15 +101,19 @@ timed f k c now values = elim c [
   | change.Set t ↦ update nat_eq f k (Some (now + (value_of values t).ticks))
 ]
 
+-- the deadlines after a leg's reaction: its transfer timer, then its hold timer
 abbrev pub timed_leg : (ℕ → Option ℕ) → Place → Reaction → ℕ → TimerValues → ℕ → Option ℕ
 timed_leg f p r now values = timed (timed f (key_of p slot.Transfer) r.transfer_timer now values) (key_of p slot.Hold) r.hold_timer now values
 
+-- the same of the leg that is told, if one is
 abbrev pub timed_other : (ℕ → Option ℕ) → Option Told → ℕ → TimerValues → ℕ → Option ℕ
 timed_other f o now values = elim o [ None ↦ f | Some t ↦ timed_leg f t.to t.reaction now values ]
 
+-- the record of a leg takes the place of the one before
 abbrev pub put_leg : List Leg → Place → Leg → List Leg
 put_leg legs p l = slice_set legs p.index l
 
+-- the same of the leg that is told, if one is
 abbrev pub put_other : List Leg → Option Told → List Leg
 put_other legs o = elim o [ None ↦ legs | Some t ↦ put_leg legs t.to t.reaction.leg ]
 
@@ -122,6 +130,7 @@ after s now p =
       capacity = s.capacity;
     }
 
+-- the answer: the leg's own note, and what both legs sent and ended
 abbrev pub done_by : Plan → Answer
 done_by p = did p.own.note (plan_sent p) (plan_ends p)
 

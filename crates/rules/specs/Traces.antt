@@ -1,5 +1,5 @@
 -- The station of the worked cases, and how a case is said.
-use Rattle.std.specs.Prelude.{◌≡◌, ℕ, List, Some, None, Option, slice_index_or, Err}
+use Rattle.std.specs.Prelude.{◌≡◌, ℕ, List, [], Some, None, Option, slice_index_or, Err}
 use Rattle.std.proofs.Common.{lit≤}
 use Rattle.message.specs.declared.codes.Carrier.{Carrier}
 use Rattle.message.specs.declared.codes.Carrier.TheVariants.{Facility, ReleaseComplete}
@@ -40,6 +40,38 @@ station = record {
   least = lit≤ tt;
   most = lit≤ tt;
 }
+
+-- a fresh board of a station whose hold T2 differs from its hold T1: 7 ticks
+abbrev pub slow_board : State
+slow_board =
+    fresh
+    (record {
+      own = 200;
+      values = record {
+        ct_t1 = station.values.ct_t1;
+        ct_t2 = station.values.ct_t2;
+        ct_t3 = station.values.ct_t3;
+        ct_t4 = station.values.ct_t4;
+        hold_t1 = station.values.hold_t1;
+        hold_t2 = record { ticks = 7; least = lit≤ tt; most = lit≤ tt };
+      };
+      least = lit≤ tt;
+      most = lit≤ tt;
+    })
+    64
+
+-- a board with all legs free that has one request number left
+abbrev pub late_board : State
+late_board =
+    record {
+      settings = station;
+      time = 0;
+      next = Some 65535;
+      legs = (fresh station 64).legs;
+      deadlines = (fresh station 64).deadlines;
+      waiting = [];
+      capacity = 64;
+    }
 
 -- the answers to these calls on a fresh board with this capacity
 abbrev pub answers_with : ℕ → List Call → List Answer
