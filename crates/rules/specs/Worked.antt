@@ -77,7 +77,7 @@ ReleaseMatches =
     × (leg_after (transfer_of3 ++ heard (with ReleaseComplete Result CallTransferInitiate 3 1 0 0) ∷ []) 3 ≡ free_leg)
     × (timer_after (transfer_of3 ++ heard (with ReleaseComplete Result CallTransferInitiate 3 1 0 0) ∷ []) 6 ≡ None)
 
--- with the result of another, or with nothing, it ends the request by clearing, and the leg with it
+-- RELEASE COMPLETE with the result of another, or with nothing, ends the request by clearing, and the leg with it
 abbrev pub ReleaseOther : Type 0
 ReleaseOther =
     (Answers (transfer_of3 ++ heard (with ReleaseComplete Result CallTransferInitiate 3 2 0 0) ∷ []) (done ∷ sends transfer_invoke ∷ ends 1 cause.Cleared ∷ []))
@@ -212,7 +212,7 @@ ConsultUnanswered =
     × (leg_after (consult_of3 ++ call.Tick 10 ∷ []) 4 ≡ idle 400)
     × (timer_after (consult_of3 ++ call.Tick 10 ∷ []) 8 ≡ None)
 
--- the primary is lost while the identity is awaited, and while the transfer is
+-- the primary is lost while the identity is awaited: the far end of the secondary is told not to wait
 abbrev pub PrimaryLostConsulting : Type 0
 PrimaryLostConsulting =
     (Answers (consult_of3 ++ heard (release 3) ∷ []) (consult_sent ++ sends_ends (abandon 4) 1 cause.Cleared ∷ []))
@@ -220,6 +220,7 @@ PrimaryLostConsulting =
     × (leg_after (consult_of3 ++ heard (release 3) ∷ []) 4 ≡ idle 400)
     × (timer_after (consult_of3 ++ heard (release 3) ∷ []) 8 ≡ None)
 
+-- and the same while the transfer is awaited
 abbrev pub PrimaryLostInitiating : Type 0
 PrimaryLostInitiating =
     (Answers (consult_identified ++ call.Clear 3 ∷ []) (identified_sent ++ did note.Done (few.Two (release 3) (abandon 4)) (few.One (end 2 cause.Cleared)) ∷ []))
@@ -782,13 +783,13 @@ FreeLegs =
     (refused refusal.LegFree ∷ refused refusal.LegFree ∷ refused refusal.LegFree ∷ refused refusal.LegFree ∷ refused refusal.LegFree ∷ refused refusal.LegFree ∷ refused refusal.LegFree ∷ refused refusal.LegFree ∷ done
     ∷ refused refusal.LegFree ∷ refused refusal.LegFree ∷ refused refusal.LegInUse ∷ [])
 
--- a leg that is still called cannot be transferred, consulted, consulted about or held, and there is nothing to retrieve
+-- a leg that still calls cannot be transferred, be either leg of a consultation, or be held, and there is nothing to retrieve
 abbrev pub NotActiveLegs : Type 0
 NotActiveLegs =
     Answers (placed_on4 ++ call.Transfer 4 500 ∷ call.Open 5 500 ∷ call.Consult 4 5 ∷ call.Consult 5 4 ∷ call.Consult 4 4 ∷ call.Hold 4 hold.Near ∷ call.Retrieve 4 ∷ [])
     (placed_sent ++ refused refusal.NotActive ∷ done ∷ refused refusal.NotActive ∷ refused refusal.NotActive ∷ refused refusal.NotActive ∷ refused refusal.NotActive ∷ refused refusal.WrongState ∷ [])
 
--- a leg with a transfer under way cannot be transferred or consulted, nor can a leg be consulted with itself
+-- a leg with a transfer under way cannot be transferred or be either leg of a consultation, and no leg can be both
 abbrev pub NotIdleLegs : Type 0
 NotIdleLegs =
     Answers (transfer_of3 ++ call.Transfer 3 500 ∷ call.Open 4 400 ∷ call.Consult 3 4 ∷ call.Consult 4 3 ∷ call.Consult 4 4 ∷ call.Consult 3 3 ∷ [])
