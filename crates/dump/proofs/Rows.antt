@@ -1,7 +1,5 @@
 -- The loops over digits, one turn at a time.
-use Rattle.std.proofs.Common.{◌≡◌, ℕ, ◌+◌, ◌-◌, ◌/◌, ◌%◌, ◌^◌, ◌<◌, ◌≤◌, false, List, [], ◌∷◌, ◌++◌, length, get_or, take, drop, Some, None, Option, sym, refl, ap, ◌∙◌, append_assoc, arith}
-use Rattle.std.specs.Fmt.{digits, padded_integral, format_spec}
-use Rattle.std.proofs.lemmas.Fmt.{hex_byte}
+use Rattle.std.proofs.Common.{◌≡◌, ℕ, ◌+◌, ◌-◌, ◌/◌, ◌%◌, ◌<◌, ◌≤◌, List, [], ◌∷◌, ◌++◌, length, get_or, take, drop, Some, None, Option, sym, refl, ap, ◌∙◌, append_assoc, arith}
 use Rattle.std.proofs.lemmas.List.{take_all, take_more}
 use Rattle.dump.specs.Hex.{glyph, digit_of, paired, before, hex_row, hex_text}
 
@@ -39,7 +37,7 @@ hex_append [] ys = refl
 hex_append (x ∷ xs) ys = ap (λ zs. glyph (x / 16) ∷ glyph (x % 16) ∷ zs) (hex_append xs ys)
 
 -- the digits of one byte more
-pub hex_more : (xs : List ℕ) (i : ℕ) → i < length xs → get_or xs i 0 < 256
-    → hex_text (take i xs) ++ padded_integral (format_spec 32 0 4 2 (2 ^ 64 - 1)) false [] (digits 16 false (get_or xs i 0)) ≡ hex_text (take (i + 1) xs)
+pub hex_more : (xs : List ℕ) (i : ℕ) → i < length xs
+    → hex_text (take i xs) ++ (glyph (get_or xs i 0 / 16) ∷ glyph (get_or xs i 0 % 16) ∷ []) ≡ hex_text (take (i + 1) xs)
 unfolding hex_text
-hex_more xs i here small = rw (hex_byte false (get_or xs i 0) small, take_more xs i 0 here, hex_append)
+hex_more xs i here = rw (take_more xs i 0 here, hex_append)

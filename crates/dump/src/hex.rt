@@ -1,7 +1,8 @@
 // Bytes as hexadecimal digits, two for each byte.
-ghost use Rattle.std.specs.Prelude.{◌≡◌, IfOk, Some, vec_items};
+ghost use Rattle.std.specs.Prelude.{◌≡◌, ◌/◌, ◌%◌, ◌<◌, [], ◌∷◌, IfOk, Some, vec_items};
+ghost use Rattle.std.specs.Fmt.{WritesOnOk};
 ghost use Rattle.std.specs.Option.{option_map};
-ghost use Rattle.dump.specs.Hex.{digit_of, paired, hex_text, hex_row};
+ghost use Rattle.dump.specs.Hex.{digit_of, glyph, paired, hex_text, hex_row};
 
 use std::alloc::{AllocError, Global};
 use std::fmt;
@@ -25,6 +26,39 @@ fn byte(high: u8, low: u8) -> Option<u8>
     Some(digit(high)? * 16 + digit(low)?)
 }
 
+// The digit that stands for a value, in lower case.
+fn spelled(value: u8) -> &'static str
+    requires { value < 16 }
+    ensures { result.now ≡ glyph value ∷ [] }
+{
+    match value {
+        0 => "0",
+        1 => "1",
+        2 => "2",
+        3 => "3",
+        4 => "4",
+        5 => "5",
+        6 => "6",
+        7 => "7",
+        8 => "8",
+        9 => "9",
+        10 => "a",
+        11 => "b",
+        12 => "c",
+        13 => "d",
+        14 => "e",
+        _ => "f",
+    }
+}
+
+// The two digits of a byte. Not by `{:02x}`, with which a row that says little takes twice as long.
+fn write_byte<W: fmt::Write>(f: &mut fmt::Formatter<W>, byte: u8) -> fmt::Result
+    ensures { WritesOnOk W.write_str_gives f.old result (glyph (byte / 16) ∷ glyph (byte % 16) ∷ []) f.new }
+{
+    f.write_str(spelled(byte / 16))?;
+    f.write_str(spelled(byte % 16))
+}
+
 // Bytes as digits in lower case.
 #[derive(Clone, Copy)]
 pub(crate) struct Hex<'a>(pub(crate) &'a [u8]);
@@ -34,7 +68,7 @@ impl fmt::Display for Hex<'_> {
 
     fn fmt<W: fmt::Write>(&self, f: &mut fmt::Formatter<W>) -> fmt::Result {
         for &byte in self.0 {
-            write!(f, "{byte:02x}")?;
+            write_byte(f, byte)?;
         }
         Ok(())
     }

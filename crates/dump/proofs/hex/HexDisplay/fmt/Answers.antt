@@ -11,6 +11,5 @@ loop-byte-init g c = search rules
 pub loop-byte-preserved : goal.loop-byte-preserved
 loop-byte-preserved g c = λ plain.
     let so_far = c.loop-byte.invariant plain in
-    let two = rw (c.laid_out.ensures, c.in_radix.ensures) at c.write.ensures.writes in
-    has_written_of_eq _ _ _ _ _ (hex_more c.args.self.now.0.now c.loop-byte.byte-index (omega arith) (omega arith))
-    (has_written_append _ _ _ _ _ _ so_far (two so_far.plain (search rules)))
+    has_written_of_eq _ _ _ _ _ (hex_more c.args.self.now.0.now c.loop-byte.byte-index (omega arith))
+    (has_written_append _ _ _ _ _ _ so_far (c.write_byte.ensures so_far.plain (search rules)))
