@@ -5,6 +5,10 @@ use Rattle.timers.specs.declared.heap.ranking.Heap.{Heap}
 use Rattle.timers.specs.Heaps.{Rising, Sinking, exch}
 use Rattle.timers.specs.HeapViews.{place_in, Reordered}
 
+pub exch_second : (i j : ℕ) → exch i j j ≡ i
+unfolding exch
+exch_second i j = grind (arith, nat_tests)
+
 -- over the ranks R and S by place, before and after; p is the parent
 pub rising_more : (R S : ℕ → ℕ) (n i p : ℕ) → p ≡ (i - 1) / 2 → 0 < i → i < n → ((x : ℕ) → S x ≡ R (exch i p x)) → R i < R p → Rising R n i → Rising S n p
 unfolding exch

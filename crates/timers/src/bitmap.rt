@@ -40,20 +40,24 @@ impl BitmapTimers {
         ensures first { IsFirstDue (bitmap_meant self.now.running self.now.deadlines) result.0 }
         ensures turns { result.1 ≡ count_ones self.now.running }
     {
-        let mut best: Option<Due> = None;
-        let mut turns = 0;
-        for key in self.running_keys() {
+        let mut keys = self.running_keys();
+        // The first so far in two parts: an Option would carry its case from turn to turn.
+        let Some(mut key) = keys.next() else {
+            return (None, 0);
+        };
+        let mut deadline = self.deadlines[key.index];
+        let mut turns = 1;
+        for next in keys {
             turns += 1;
-            let deadline = self.deadlines[key.index];
+            let due = self.deadlines[next.index];
             // keys rise, so that a later one wins only by a smaller deadline
-            if best.is_none_or(|due| deadline < due.deadline) {
-                best = Some(Due {
-                    key: key.index as u8,
-                    deadline,
-                });
+            if due < deadline {
+                key = next;
+                deadline = due;
             }
         }
-        (best, turns)
+        let key = key.index as u8;
+        (Some(Due { deadline, key }), turns)
     }
 }
 

@@ -20,10 +20,20 @@ impl fmt::Display for NoSuchKey {
 impl Error for NoSuchKey {}
 
 // A running key with its deadline. The order of the fields is the order in which timers run out.
-#[derive(Clone, Copy, PartialEq, Eq, PartialOrd, Ord, Debug)]
+#[derive(Clone, Copy, PartialEq, Eq, PartialOrd, Ord)]
 pub struct Due {
     pub deadline: u64,
     pub key: u8,
+}
+
+// The key stands first in what is printed.
+impl fmt::Debug for Due {
+    fn fmt<W: fmt::Write>(&self, f: &mut fmt::Formatter<W>) -> fmt::Result {
+        f.debug_struct("Due")
+            .field("key", &self.key)
+            .field("deadline", &self.deadline)
+            .finish()
+    }
 }
 
 // For each of the keys 0 to 63 no deadline or one.

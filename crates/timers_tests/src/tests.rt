@@ -1,5 +1,6 @@
 use crate::next;
 use std::process::Abort;
+use std::test::Fail;
 use timers::{BitmapTimers, Due, HeapTimers, NoSuchKey, Timers};
 
 // The first by looking at every key.
@@ -94,4 +95,12 @@ fn turns_are_running_keys(rt: HostRuntime) {
         assert_eq!(rt; bitmap.set(key, 5), Ok(()));
         assert_eq!(rt; bitmap.first_counted().1, u32::from(key) + 1);
     }
+}
+
+// What is printed for debugging names the key first.
+#[test]
+fn due_prints(rt: HostRuntime) -> Result<(), Fail> {
+    let text = format!(in rt.alloc(); "{:?}", due(5, 7))?;
+    assert_eq!(rt; text.as_str(), "Some(Due { key: 5, deadline: 7 })");
+    Ok(())
 }

@@ -13,11 +13,11 @@ impl HeapTimers {
         ensures meant { deadlines_in self.new.heap ≡ update nat_eq (deadlines_in self.old.heap) key.index (Some deadline) }
     {
         let from = self.heap.links.place_of(key);
-        let place = self.heap.count;
-        self.heap.links.swap(from, place);
+        let end = self.heap.count;
+        self.heap.links.swap(from, end);
         self.heap.write(key, deadline);
         self.heap.count += 1;
-        self.heap.settle(place);
+        self.heap.settle(end);
     }
 
     // Gives a running key another deadline.

@@ -1,5 +1,5 @@
 // The keys of a heap with their deadlines, whether they stand in order or not.
-ghost use Rattle.std.specs.Prelude.{◌≡◌, ℕ, ◌<◌, ◌≤◌, length};
+ghost use Rattle.std.specs.Prelude.{◌≡◌, ℕ, ◌+◌, ◌*◌, ◌<◌, ◌≤◌, length, nat_lt};
 
 use super::links::Links;
 use crate::key::Key;
@@ -17,7 +17,7 @@ pub struct Heap {
 }
 
 impl Heap {
-    ghost use Rattle.std.specs.Prelude.{nat_lt, slice_index, slice_set};
+    ghost use Rattle.std.specs.Prelude.{slice_index, slice_set};
     ghost use Rattle.timers.specs.Heaps.{rank};
     ghost use Rattle.timers.specs.HeapViews.{place_in, rank_in};
 
@@ -50,6 +50,8 @@ impl Heap {
         requires { i < 64 }
         ensures key { result.key ≡ slice_index self.now.links.keys i }
         ensures deadline { result.deadline ≡ slice_index self.now.deadlines result.key }
+        ensures rank { result.deadline * 64 + result.key ≡ rank_in self.now i }
+        ensures below { result.key < 64 }
     {
         let key = self.links.key_at(i);
         Due {
@@ -58,12 +60,21 @@ impl Heap {
         }
     }
 
-    // Whether the key in place i comes before the one in place j: by deadline, then key.
+    // Whether the key in place i comes before the one in place j.
     pub fn earlier(&self, i: usize, j: usize) -> bool
         requires i { i < 64 }
         requires j { j < 64 }
         ensures { result ≡ nat_lt (rank_in self.now i) (rank_in self.now j) }
     {
-        self.due_in(i) < self.due_in(j)
+        precedes(self.due_in(i), self.due_in(j))
     }
+}
+
+// Whether a runs out before b: by deadline, then key.
+pub fn precedes(a: Due, b: Due) -> bool
+    requires a { a.key < 64 }
+    requires b { b.key < 64 }
+    ensures { result ≡ nat_lt (a.deadline * 64 + a.key) (b.deadline * 64 + b.key) }
+{
+    a < b
 }

@@ -3,7 +3,7 @@ ghost use Rattle.std.specs.Prelude.{◌≡◌, ℕ, ◌+◌, ◌-◌, ◌*◌, �
 ghost use Rattle.timers.specs.Heaps.{Rising, Sinking, Loose};
 ghost use Rattle.timers.specs.HeapViews.{rank_in, Settled};
 
-use super::ranking::Heap;
+use super::ranking::{Heap, precedes};
 
 impl Heap {
     // Moves a key up until its parent comes no later. No iterator: the way goes on only from where the last exchange led.
@@ -12,13 +12,14 @@ impl Heap {
         requires rising { Rising (rank_in self.old) self.old.count from }
         ensures { Settled self.old self.new }
     {
+        let rising = self.due_in(from);
         let mut at = from;
         while at > 0 {
             let up = (at - 1) / 2;
-            if !self.earlier(at, up) {
+            if !precedes(rising, self.due_in(up)) {
                 return;
             }
-            self.links.swap(at, up);
+            self.links.exchange(rising.key, at, up);
             at = up;
         }
     }
@@ -34,10 +35,8 @@ impl Heap {
         if right == self.count {
             return left;
         }
-        if self.earlier(right, left) {
-            return right;
-        }
-        left
+        // not by an `if`, which would be a branch, and one of chance
+        left + usize::from(self.earlier(right, left))
     }
 
     // Moves a key down until its children come no earlier. No iterator here either.
@@ -46,13 +45,14 @@ impl Heap {
         requires sinking { Sinking (rank_in self.old) self.old.count from }
         ensures { Settled self.old self.new }
     {
+        let sinking = self.due_in(from);
         let mut at = from;
         while 2 * at + 1 < self.count {
             let child = self.least_child(at);
-            if !self.earlier(child, at) {
+            if !precedes(self.due_in(child), sinking) {
                 return;
             }
-            self.links.swap(at, child);
+            self.links.exchange(sinking.key, at, child);
             at = child;
         }
     }

@@ -1,9 +1,9 @@
-use Rattle.std.proofs.Common.{◌≡◌, ◌+◌, count_ones}
+use Rattle.std.proofs.Common.{◌≡◌, ◌+◌, Some, count_ones}
 use Rattle.timers.proofs.Firsts.{SoFar}
 use Rattle.timers.proofs.bitmap.BitmapTimers.first_counted.Given as goal
 
-abbrev pub invariant-loop-key : goal.invariant-loop-key
-invariant-loop-key l = record {
-  best : SoFar l.self.running l.key-iterator.rest l.best l.self.deadlines;
-  turns : l.turns + count_ones l.key-iterator.rest ≡ count_ones l.self.running;
+abbrev pub invariant-loop-next : goal.invariant-loop-next
+invariant-loop-next l = record {
+  best : SoFar l.self.running l.next-iterator.rest (Some (record { key = l.key.index; deadline = l.deadline })) l.self.deadlines;
+  turns : l.turns + count_ones l.next-iterator.rest ≡ count_ones l.self.running;
 }

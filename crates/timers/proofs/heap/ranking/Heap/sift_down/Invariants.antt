@@ -1,10 +1,10 @@
-use Rattle.std.proofs.Common.{◌-◌, ◌<◌}
+use Rattle.std.proofs.Common.{slice_index, ◌≡◌, ◌+◌, ◌-◌, ◌*◌, ◌<◌}
 use Rattle.timers.specs.Heaps.{Sinking}
 use Rattle.timers.specs.HeapViews.{rank_in, Reordered}
 use Rattle.timers.proofs.heap.ranking.Heap.sift_down.Given as goal
 
 abbrev pub invariant-loop-at : goal.invariant-loop-at
-invariant-loop-at l = record { within : l.at < l.self.count; sinking : Sinking (rank_in l.self) l.self.count l.at; kept : Reordered l.initial.self l.self }
+invariant-loop-at l = record { within : l.at < l.self.count; sinking : Sinking (rank_in l.self) l.self.count l.at; kept : Reordered l.initial.self l.self; due : l.sinking.deadline * 64 + l.sinking.key ≡ rank_in l.self l.at; key : l.sinking.key ≡ slice_index l.self.links.keys l.at }
 
 abbrev pub decreases-loop-at : goal.decreases-loop-at
 decreases-loop-at l = 64 - l.at
