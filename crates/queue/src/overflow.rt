@@ -10,12 +10,12 @@ use message::Message;
 type Places = ArrayVec<Message, 8>;
 
 // Keeps up to eight messages that the queue below has no place for. Its list is the list below, then its own.
+// It asks nothing of Q, so that a type may name it over any: what is kept of the queue below is a clause of each method.
 #[derive(Debug, Drop)]
-pub struct OverflowQueue<Q: Queue> {
+pub struct OverflowQueue<Q> {
     below: Q,
     own: Places,
     ghost room: { length own.items ≤ 8 },
-    pub ghost settled: { Settled (Q.waiting below) (Q.capacity below) own.items },
 }
 
 impl<Q: Queue> OverflowQueue<Q> {
@@ -37,7 +37,8 @@ impl<Q: Queue> OverflowQueue<Q> {
 impl<Q: Queue> Queue for OverflowQueue<Q> {
     ghost use Rattle.std.proofs.Common.{rules};
     ghost use Rattle.std.proofs.lemmas.List.{length-append};
-    ghost use Rattle.queue.specs.Overflows.{all_waiting, all_capacity};
+    ghost use Rattle.queue.specs.Queues.{Puts, Takes};
+    ghost use Rattle.queue.specs.Overflows.{SettledIn, all_waiting, all_capacity};
 
     ghost waiting = { all_waiting Q.Queue };
 
@@ -45,20 +46,36 @@ impl<Q: Queue> Queue for OverflowQueue<Q> {
 
     ghost bounds = { Prim.search (rules, length-append) };
 
-    // Below, or behind what is held here: while anything is, the queue below is full.
-    fn put(&mut self, message: Message) -> Result<(), Full> {
+    // Below while nothing is held here, else behind what is held.
+    fn put(&mut self, message: Message) -> Result<(), Full>
+        ensures kept { all_capacity Q.Queue self.new ≡ all_capacity Q.Queue self.old }
+        ensures cases { Puts (all_waiting Q.Queue) (all_capacity Q.Queue) message self.old self.new result }
+        ensures settled { SettledIn Q.Queue self.old → SettledIn Q.Queue self.new }
+    {
+        if self.own.is_empty() {
+            if self.below.put(message).is_err() {
+                self.own.push(message);
+            }
+            return Ok(());
+        }
+        // Where the own places are in use the queue below is full, unless someone else emptied it: then its place goes first.
+        refill(&mut self.below, &mut self.own);
         if self.own.is_full() {
             return Err(Full);
         }
-        if self.below.put(message).is_err() {
-            self.own.push(message);
-        }
+        self.own.push(message);
         Ok(())
     }
 
     // From below; the first of the own then moves into the place that came free.
-    fn take(&mut self) -> Option<Message> {
-        let message = self.below.take()?;
+    fn take(&mut self) -> Option<Message>
+        ensures kept { all_capacity Q.Queue self.new ≡ all_capacity Q.Queue self.old }
+        ensures cases { Takes (all_waiting Q.Queue) self.old self.new result }
+        ensures settled { SettledIn Q.Queue self.old → SettledIn Q.Queue self.new }
+    {
+        let Some(message) = self.below.take() else {
+            return self.own.pop_at(0);
+        };
         refill(&mut self.below, &mut self.own);
         Some(message)
     }

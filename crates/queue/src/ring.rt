@@ -46,6 +46,7 @@ pub struct RingQueue<'a> {
 }
 
 impl<'a> RingQueue<'a> {
+    ghost use Rattle.std.specs.Prelude.{slice_index_or, slice_set};
     ghost use Rattle.queue.specs.Rings.{FitsRing, Next, records_of, ring_waiting, ring_capacity};
 
     // Whether these records can be lent to a ring. It only looks at their number.
@@ -78,6 +79,22 @@ impl<'a> RingQueue<'a> {
         ensures { result ≡ length (ring_waiting self.now) }
     {
         self.count
+    }
+
+    fn record(&self, at: usize) -> Message
+        requires { at < ring_capacity self.now }
+        ensures { result ≡ slice_index_or (records_of self.now) at result }
+    {
+        self.records[at]
+    }
+
+    fn store(&mut self, place: usize, message: Message)
+        requires { place < ring_capacity self.old }
+        ensures all { records_of self.new ≡ slice_set (records_of self.old) place message }
+        ensures head { self.new.head ≡ self.old.head }
+        ensures count { self.new.count ≡ self.old.count }
+    {
+        self.records[place] = message;
     }
 
     // The place that lies these steps after the head, round the end of the records.
@@ -119,7 +136,7 @@ impl Queue for RingQueue<'_> {
             return Err(Full);
         }
         let place = self.place(count);
-        self.records[place] = message;
+        self.store(place, message);
         self.count += 1;
         Ok(())
     }
@@ -133,7 +150,8 @@ impl Queue for RingQueue<'_> {
         if self.count == 0 {
             return None;
         }
-        let message = self.records[self.head];
+        let head = self.head;
+        let message = self.record(head);
         self.head = self.place(1);
         self.count -= 1;
         Some(message)

@@ -100,3 +100,28 @@ fn held_by_value(rt: HostRuntime) -> Result<(), Fail> {
     assert_eq!(rt; large.next(), Some(numbered(0)));
     Ok(())
 }
+
+// A type may name an overflow over any Q, and ask for a queue only where it uses one.
+#[derive(Drop)]
+struct Station<Q> {
+    waiting: OverflowQueue<Q>,
+}
+
+impl<Q: Queue> Station<Q> {
+    fn send(&mut self, number: u16) -> Result<(), Full> {
+        self.waiting.put(numbered(number))
+    }
+}
+
+#[test]
+fn named_over_any(rt: HostRuntime) -> Result<(), Fail> {
+    let mut records = [numbered(0); 2];
+    let waiting = OverflowQueue::new(RingQueue::new(&mut records)?);
+    let mut station = Station { waiting };
+    for number in 0..10u16 {
+        assert_eq!(rt; station.send(number), Ok(()));
+    }
+    assert_eq!(rt; station.send(10), Err(Full));
+    assert_eq!(rt; station.waiting.take(), Some(numbered(0)));
+    Ok(())
+}

@@ -6,4 +6,5 @@ pub returns-clause-cases : goal.returns-clause-cases
 returns-clause-cases c =
     let q = c.args.self.now in
     let long = length_ringed q.count q.head q.records.now in
-    (omega arith, put_at q.records.now _ _ _ _ (omega arith) (omega arith) c.place-place.ensures)
+    let stored = c.store.ensures in
+    (omega arith, rw (stored.all, stored.head, stored.count) (put_at q.records.now _ _ _ _ (omega arith) (omega arith) c.place-place.ensures))
